@@ -3,7 +3,7 @@ use mathlib.Core.Path.{_≡_, refl, sym, ap, _∙_}
 use mathlib.Core.List.{List, [], _∷_}
 use Prim.Native.Nat.{ℕ, zero, suc, _+_, _-_, _*_, _/_, _<_, _≤_}
 use native.Mathlib.Omega.{arith}
-use native.Mathlib.Nat.{mul-zero, mul-suc}
+use native.Mathlib.Nat.{mul-zero, mul-suc, mul-div-le, mul-le-mul-left}
 use lib.ListN.{length, take, drop}
 use Rattle.std.specs.shelf.Maps.{nth}
 use Rattle.std.proofs.shelf.Lists.{drop-drop}
@@ -29,3 +29,9 @@ pub nth-records : (w : ℕ) (bytes : List ℕ) (k : ℕ) → k < length bytes / 
 nth-records w bytes k h =
     let e : w ≡ w * k + w - w * k = omega arith in
     nth-cut w (length bytes / w) bytes k h ∙ ap (λ n. Some (take n (drop (w * k) bytes))) e
+
+-- the record with the number k lies within the bytes
+pub record-within : (w : ℕ) (bytes : List ℕ) (k : ℕ) → k < length bytes / w → w * k + w ≤ length bytes
+record-within w bytes k h =
+    let l : suc k ≤ length bytes / w = omega arith in
+    omega (arith, mul-suc w k, mul-le-mul-left w l, mul-div-le (length bytes) w)
