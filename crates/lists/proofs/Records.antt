@@ -1,34 +1,33 @@
 -- Facts on records of w bytes. Assumes nothing.
 use mathlib.Core.Path.{_≡_, refl, sym, ap, _∙_}
-use mathlib.Core.List.{List, [], _∷_}
+use mathlib.Core.List.{List, [], _∷_, _++_, map}
 use Prim.Native.Nat.{ℕ, zero, suc, _+_, _-_, _*_, _/_, _<_, _≤_}
 use native.Mathlib.Omega.{arith}
-use native.Mathlib.Nat.{mul-zero, mul-suc, mul-div-le, mul-le-mul-left}
+use native.Mathlib.Nat.{mul-suc, mul-div-le, mul-le-mul-left, zero-add}
 use lib.ListN.{length, take, drop}
+use Rattle.std.specs.Iters.{counting}
+use Rattle.std.specs.Joined.{joined}
 use Rattle.std.specs.shelf.Maps.{nth}
-use Rattle.std.proofs.shelf.Lists.{drop-drop}
-use Rattle.std.specs.declared.option.Option.the-variants.{Some, None}
+use Rattle.std.proofs.shelf.Maps.{nth-getD}
+use Rattle.std.proofs.shelf.Lists.{take-at, drop-at, drop-append-le}
+use Rattle.std.proofs.shelf.Counted.{length-map-counting, getD-map-counting}
+use Rattle.std.specs.declared.option.Option.the-variants.{Some}
 use Rattle.lists.specs.Words.{cut, records}
 
-pub length-cut : (w n : ℕ) (bytes : List ℕ) → length (cut w n bytes) ≡ n
-length-cut w zero bytes = refl
-length-cut w (suc n) bytes = ap suc (length-cut w n (drop w bytes))
-
 pub length-records : (w : ℕ) (bytes : List ℕ) → length (records w bytes) ≡ length bytes / w
-length-records w bytes = length-cut w (length bytes / w) bytes
+length-records w bytes = length-map-counting (λ k. take w (drop (w * k) bytes)) 0 (length bytes / w)
 
-nth-cut : (w n : ℕ) (bytes : List ℕ) (k : ℕ) → k < n → nth (cut w n bytes) k ≡ Some (take w (drop (w * k) bytes))
-nth-cut w zero bytes k h = absurd (omega arith)
-nth-cut w (suc n) bytes zero h = rw (mul-zero w)
-nth-cut w (suc n) bytes (suc k) h =
-    let e : w + w * k ≡ w * suc k = omega (arith, mul-suc w k) in
-    nth-cut w n (drop w bytes) k (omega arith) ∙ ap (λ xs. Some (take w xs)) (drop-drop (w * k) w bytes ∙ ap (λ i. drop i bytes) e)
+-- what stands at a place of a list that is made from a function of the index
+pub nth-map-counting : {X : Type 0} (f : ℕ → X) (n k : ℕ) → k < n → nth (map f (counting 0 n)) k ≡ Some (f k)
+nth-map-counting f n k h =
+    let l : k < length (map f (counting 0 n)) = omega (arith, length-map-counting f 0 n) in
+    nth-getD (map f (counting 0 n)) k (f k) l ∙ ap Some (getD-map-counting f 0 n k k (f k) h (zero-add k))
 
 -- the record with the number k, as code cuts it out of the bytes
 pub nth-records : (w : ℕ) (bytes : List ℕ) (k : ℕ) → k < length bytes / w → nth (records w bytes) k ≡ Some (take (w * k + w - w * k) (drop (w * k) bytes))
 nth-records w bytes k h =
     let e : w ≡ w * k + w - w * k = omega arith in
-    nth-cut w (length bytes / w) bytes k h ∙ ap (λ n. Some (take n (drop (w * k) bytes))) e
+    nth-map-counting (λ k. take w (drop (w * k) bytes)) (length bytes / w) k h ∙ ap (λ n. Some (take n (drop (w * k) bytes))) e
 
 -- the record with the number k lies within the bytes
 pub record-within : (w : ℕ) (bytes : List ℕ) (k : ℕ) → k < length bytes / w → w * k + w ≤ length bytes

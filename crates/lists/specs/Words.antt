@@ -1,9 +1,10 @@
 -- Words on lists that several crates use.
 use mathlib.Core.Bool.{Bool, true, false, _&&_}
-use mathlib.Core.List.{List, [], _∷_}
+use mathlib.Core.List.{List, [], _∷_, map}
 use mathlib.Core.Path.{_≡_}
-use Prim.Native.Nat.{ℕ, zero, suc, _/_, _<_}
+use Prim.Native.Nat.{ℕ, suc, _*_, _/_, _<_}
 use lib.ListN.{length, take, drop}
+use Rattle.std.specs.Iters.{counting}
 use Rattle.std.specs.Options.{Cases}
 use Rattle.std.specs.shelf.Maps.{nth}
 use Rattle.std.specs.declared.option.Option.{Option}
@@ -46,10 +47,9 @@ abbrev pub gathered : {X Y : Type 0} → (X → Option Y) → List X → List Y
 gathered f [] = []
 gathered f (x ∷ xs) = added (f x) (gathered f xs)
 
--- the first n records of w bytes each
+-- the first n records of w bytes each: the record k begins at the byte w * k
 abbrev pub cut : ℕ → ℕ → List ℕ → List (List ℕ)
-cut w zero bytes = []
-cut w (suc n) bytes = take w bytes ∷ cut w n (drop w bytes)
+cut w n bytes = map (λ k. take w (drop (w * k) bytes)) (counting 0 n)
 
 -- all whole records of w bytes each
 abbrev pub records : ℕ → List ℕ → List (List ℕ)

@@ -1,0 +1,4 @@
+pub mod GroupSets
+pub mod Placements
+pub mod Ranges
+pub mod Values
