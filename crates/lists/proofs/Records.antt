@@ -3,13 +3,14 @@ use mathlib.Core.Path.{_≡_, refl, sym, ap, _∙_}
 use mathlib.Core.List.{List, [], _∷_, _++_, map}
 use Prim.Native.Nat.{ℕ, zero, suc, _+_, _-_, _*_, _/_, _<_, _≤_}
 use native.Mathlib.Omega.{arith}
-use native.Mathlib.Nat.{mul-suc, mul-div-le, mul-le-mul-left, zero-add}
+use native.Mathlib.Nat.{mul-zero, mul-one, mul-suc, mul-add, mul-div-le, mul-le-mul-left, zero-add}
 use lib.ListN.{length, take, drop}
+use lib.Seq.{take-add}
 use Rattle.std.specs.Iters.{counting}
 use Rattle.std.specs.Joined.{joined}
 use Rattle.std.specs.shelf.Maps.{nth}
 use Rattle.std.proofs.shelf.Maps.{nth-getD}
-use Rattle.std.proofs.shelf.Lists.{take-at, drop-at, drop-append-le}
+use Rattle.std.proofs.shelf.Lists.{take-all, drop-drop}
 use Rattle.std.proofs.shelf.Counted.{length-map-counting, getD-map-counting}
 use Rattle.std.specs.declared.option.Option.the-variants.{Some}
 use Rattle.lists.specs.Words.{cut, records}
@@ -34,3 +35,16 @@ pub record-within : (w : ℕ) (bytes : List ℕ) (k : ℕ) → k < length bytes 
 record-within w bytes k h =
     let l : suc k ≤ length bytes / w = omega arith in
     omega (arith, mul-suc w k, mul-le-mul-left w l, mul-div-le (length bytes) w)
+
+-- the records of the bytes, put together again
+joined-counting : (w a n : ℕ) (bytes : List ℕ) → joined (λ k. take w (drop (w * k) bytes)) (counting a n) ≡ take (w * n) (drop (w * a) bytes)
+joined-counting w a zero bytes = rw (mul-zero w)
+joined-counting w a (suc n) bytes =
+    let e : w * a + w ≡ w * (a + 1) = omega (arith, mul-add w a 1, mul-one w) in
+    let m : w * suc n ≡ w + w * n = omega (arith, mul-suc w n) in
+    ap (λ xs. take w (drop (w * a) bytes) ++ xs) (joined-counting w (a + 1) n bytes ∙ ap (λ i. take (w * n) (drop i bytes)) (sym e) ∙ ap (take (w * n)) (sym (drop-drop w (w * a) bytes)))
+    ∙ sym (take-add w (w * n) (drop (w * a) bytes)) ∙ ap (λ i. take i (drop (w * a) bytes)) (sym m)
+
+pub joined-cut : (w n : ℕ) (bytes : List ℕ) → length bytes ≡ w * n → joined (λ k. take w (drop (w * k) bytes)) (counting 0 n) ≡ bytes
+joined-cut w n bytes h =
+    joined-counting w 0 n bytes ∙ ap (λ i. take (w * n) (drop i bytes)) (mul-zero w) ∙ take-all (w * n) bytes (omega (arith, h))

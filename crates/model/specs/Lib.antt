@@ -1,3 +1,4 @@
+pub mod Bytes
 pub mod GroupSets
 pub mod Placements
 pub mod Ranges

@@ -1,4 +1,5 @@
 // The vocabulary: values, ranges, group sets, states, pairs, placements and labels, with their bytes.
+mod bytes;
 pub mod group_set;
 pub mod label;
 pub mod placement;
