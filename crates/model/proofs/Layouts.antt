@@ -15,12 +15,13 @@ use Rattle.std.proofs.shelf.Counted.{fill-by-all}
 use Rattle.std.proofs.Pieces.{joined-on}
 use Rattle.std.proofs.shelf.Parts.{take-putMid}
 use borrow.Rule.Slice.PartMut.{putMid}
-use Rattle.std.proofs.shelf.Lists.{length-set, length-take, length-drop, length-append, take-all, getD-take, getD-drop, getD-set-same, getD-set-other}
+use Rattle.std.proofs.shelf.Lists.{length-set, length-take, length-drop, length-append, take-all, take-at, take-append-drop, drop-at, drop-all, append-nil, getD-take, getD-drop, getD-set-same, getD-set-other}
 use Rattle.lists.proofs.Records.{joined-cut}
 use Rattle.model.specs.declared.unit_state.UnitState.{UnitState}
 use Rattle.model.specs.declared.state.State.{State}
+use Rattle.model.specs.declared.state.Pair.{Pair}
 use Rattle.model.specs.Values.{byteOf}
-use Rattle.model.specs.Bytes.{zeroUnit, unitOf, unitBytes, stateOf, stateBytes}
+use Rattle.model.specs.Bytes.{zeroUnit, unitOf, unitBytes, stateOf, stateBytes, pairOf, pairBytes}
 
 -- a list of four elements is written out
 four-elements : (b : List ℕ) → length b ≡ 4 → getD b 0 0 ∷ getD b 1 0 ∷ getD b 2 0 ∷ getD b 3 0 ∷ [] ≡ b
@@ -117,3 +118,29 @@ state-kept s bytes w =
     ap stateOf (state-written s bytes w ∙ ap (joined unitBytes) us)
     ∙ six-units _ _ _ _ _ _ (w .back 0 (lit< tt)) (w .back 1 (lit< tt)) (w .back 2 (lit< tt)) (w .back 3 (lit< tt)) (w .back 4 (lit< tt)) (w .back 5 (lit< tt))
     ∙ ap (λ xs. record { units = xs }) (sym us)
+
+-- a pair from its two halves, as code cuts them out
+rest-half : (b : List ℕ) → length b ≡ 48 → take 24 (drop 24 b) ≡ drop 24 b
+rest-half b n = take-all 24 (drop 24 b) (simp length-drop (omega (arith, n)))
+
+pub pair-read : (b : List ℕ) (l r : State) → length b ≡ 48 → l ≡ stateOf (take 24 b) → r ≡ stateOf (take 24 (drop 24 b)) → _≡_ {A = Pair} (record { left = l; right = r }) (pairOf b)
+pair-read b l r n p q = let e = q ∙ ap stateOf (rest-half b n) in cc
+
+pub pair-back : (b : List ℕ) (l r : State) → length b ≡ 48 → stateBytes l ≡ take 24 b → stateBytes r ≡ take 24 (drop 24 b) → pairBytes (record { left = l; right = r }) ≡ b
+pair-back b l r n p q =
+    ap (λ xs. xs ++ stateBytes r) p ∙ ap (λ xs. take 24 b ++ xs) (q ∙ rest-half b n) ∙ take-append-drop 24 b
+
+-- the bytes of the left state over the first half, then those of the right one over the second
+pub pair-written : (p : Pair) (xs ys zs : List ℕ) → length xs ≡ 24 → length zs ≡ 24 → xs ≡ stateBytes (p .left) → ys ≡ stateBytes (p .right) → putMid 24 24 (xs ++ zs) ys ≡ pairBytes p
+pair-written p xs ys zs n m l r =
+    ap (λ f. f ++ (ys ++ drop 24 (drop 24 (xs ++ zs)))) (take-at xs zs 24 n)
+    ∙ ap (λ f. xs ++ (ys ++ drop 24 f)) (drop-at xs zs 24 n)
+    ∙ ap (λ f. xs ++ (ys ++ f)) (drop-all 24 zs (omega (arith, m)))
+    ∙ ap (λ f. xs ++ f) (append-nil ys)
+    ∙ ap (λ f. f ++ ys) l ∙ ap (λ f. stateBytes (p .left) ++ f) r
+
+pub pair-kept : (p : Pair) (xs ys : List ℕ) → length xs ≡ 24 → stateOf xs ≡ p .left → stateOf ys ≡ p .right → pairOf (xs ++ ys) ≡ p
+pair-kept p xs ys n l r =
+    let a = ap stateOf (take-at xs ys 24 n) ∙ l in
+    let b = ap stateOf (drop-at xs ys 24 n) ∙ r in
+    λ i. record { left = a i; right = b i }

@@ -66,3 +66,26 @@ impl State {
         bytes
     }
 }
+
+impl Pair {
+    /// The pair in 48 bytes: the left state, then the right one.
+    pub fn from_bytes(bytes: [u8; 48]) -> Pair
+        ensures is { λ r. ⌜ r ≡ pairOf bytes ⌝ }
+        ensures back { λ r. ⌜ pairBytes r ≡ bytes ⌝ }
+    {
+        Pair {
+            left: read_state(&bytes[0..24]),
+            right: read_state(&bytes[24..48]),
+        }
+    }
+
+    pub fn to_bytes(&self) -> [u8; 48]
+        ensures is { λ r. ⌜ r ≡ pairBytes (now (self .entry)) ⌝ }
+        ensures back { λ r. ⌜ pairOf r ≡ now (self .entry) ⌝ }
+    {
+        let mut bytes = [0; 48];
+        bytes[0..24].copy_from_slice(&self.left.to_bytes());
+        bytes[24..48].copy_from_slice(&self.right.to_bytes());
+        bytes
+    }
+}
