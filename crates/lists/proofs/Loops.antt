@@ -1,19 +1,20 @@
 -- Steps of loops over a list. Assumes nothing.
 use mathlib.Core.Path.{_≡_, refl, sym, ap, _∙_}
 use mathlib.Core.Bool.{Bool, true, false, _&&_}
-use mathlib.Core.List.{List, [], _∷_, _++_}
+use mathlib.Core.List.{List, [], _∷_, _++_, map}
 use Prim.Native.Nat.{ℕ, zero, suc, _+_, _<_, _≤_}
 use native.Mathlib.Omega.{arith}
 use native.Mathlib.Numerals.{add-one}
 use native.Mathlib.Nat.{add-zero}
 use lib.ListN.{length, take, drop}
 use Rattle.std.specs.shelf.Maps.{nth}
-use Rattle.std.proofs.shelf.Lists.{drop-all}
+use Rattle.std.proofs.shelf.Lists.{drop-all, map-more}
+use Rattle.std.proofs.shelf.Maps.{nth-getD}
 use Rattle.std.proofs.shelf.Tests.{and-parts, and-from, and-left}
 use Rattle.std.specs.declared.option.Option.{Option}
 use Rattle.std.specs.declared.option.Option.the-variants.{Some, None}
 use Rattle.lists.specs.Words.{everyFrom, added, gathered}
-use Rattle.lists.proofs.Places.{some-none, drop-nth}
+use Rattle.lists.proofs.Places.{some-same, some-none, nth-within, drop-nth}
 
 -- a loop that stops at the first element that fails: what is left decides as the whole does
 module _ {X : Type 0} (f : ℕ → X → Bool) where
@@ -44,6 +45,11 @@ module _ {X : Type 0} (f : ℕ → X → Bool) where
   each-every k (x ∷ xs) h =
       and-from (f k x) (everyFrom f (suc k) xs) (rw (add-zero k) at (h 0 x refl))
       (each-every (suc k) xs (λ i y e. let s : k + suc i ≡ suc k + i = omega arith in rw s at (h (suc i) y e)))
+
+-- a loop that maps each element
+pub map-take-more : {X Y : Type 0} (f : X → Y) (xs : List X) (k : ℕ) (x : X) → nth xs k ≡ Some x → map f (take (k + 1) xs) ≡ map f (take k xs) ++ f x ∷ []
+map-take-more f xs k x at =
+    map-more f xs k x (nth-within xs k x at) ∙ ap (λ y. map f (take k xs) ++ f y ∷ []) (some-same (nth xs k) _ x (nth-getD xs k x (nth-within xs k x at)) at)
 
 -- a loop that gathers what f gives of each element
 added-append : {Y : Type 0} (o : Option Y) (xs ys zs : List Y) → xs ≡ ys ++ zs → added o xs ≡ added o ys ++ zs

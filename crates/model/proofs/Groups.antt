@@ -54,25 +54,28 @@ some-has = bin-ind (λ n. (n ≡ 0 → ⊥) → (g : ℕ) × (eqb (n / 2 ^ g % 2
   where
     odd : (n : ℕ) → n % 2 ≡ 1 → (g : ℕ) × (eqb (n / 2 ^ g % 2) 1 ≡ true)
     odd n e = (0, eq-eqb (n / 1 % 2) 1 (ap (λ k. k % 2) (div-one n) ∙ e))
+
     later : (n : ℕ) → ((n / 2 ≡ 0 → ⊥) → (g : ℕ) × (eqb (n / 2 / 2 ^ g % 2) 1 ≡ true)) → (n ≡ 0 → ⊥) → (n % 2 ≡ 1 → ⊥) → (g : ℕ) × (eqb (n / 2 ^ g % 2) 1 ≡ true)
     later n next h even =
         let p = next (λ z. h (omega arith)) in
         (suc (p .0), ap (λ k. eqb (k % 2) 1) (sym (half-has n (p .0))) ∙ p .1)
 
 pub decides-empty : (s : GroupSet) → Decides (empty s) ((g : ℕ) → has s g ≡ false)
-decides-empty s =
-    (λ e g. ap (λ n. eqb (n / 2 ^ g % 2) 1) (eqb-true (s .bits) 0 e) ∙ none-has g,
-     λ none. ⊎-elim (eq-eqb (s .bits) 0) (λ h. let p = some-has (s .bits) h in let n = none (p .0) in let t = p .1 in let z : _≡_ {A = ℕ} 0 1 = cc in absurd (omega arith)) (cases-eq (s .bits) 0))
+decides-empty s = (
+  λ e g. ap (λ n. eqb (n / 2 ^ g % 2) 1) (eqb-true (s .bits) 0 e) ∙ none-has g,
+  λ none. ⊎-elim (eq-eqb (s .bits) 0) (λ h. let p = some-has (s .bits) h in let n = none (p .0) in let t = p .1 in let z : _≡_ {A = ℕ} 0 1 = cc in absurd (omega arith)) (cases-eq (s .bits) 0),
+)
 
 pub decides-linked : (s t : GroupSet) → Decides (linked s t) ((g : ℕ) × (has s g ≡ true) × (has t g ≡ true))
-decides-linked s t =
-    (λ e. let p = some-has (bitAnd (s .bits) (t .bits)) (eqb-false _ 0 (not-true _ e)) in
-          let q = and-parts (has s (p .0)) (has t (p .0)) (sym (has-part t s (p .0)) ∙ p .1) in
-          (p .0, q .0, q .1),
-     λ p. not-from-false _ (ne-eqb _ 0 (λ e.
-          let t′ = has-part t s (p .0) ∙ and-from _ _ (p .1) (p .2) in
-          let f = ap (λ n. eqb (n / 2 ^ p .0 % 2) 1) e ∙ none-has (p .0) in
-          let z : _≡_ {A = ℕ} 0 1 = cc in omega arith)))
+decides-linked s t = (
+  λ e. let p = some-has (bitAnd (s .bits) (t .bits)) (eqb-false _ 0 (not-true _ e)) in
+      let q = and-parts (has s (p .0)) (has t (p .0)) (sym (has-part t s (p .0)) ∙ p .1) in
+      (p .0, q .0, q .1),
+  λ p. not-from-false _ (ne-eqb _ 0 (λ e.
+      let t′ = has-part t s (p .0) ∙ and-from _ _ (p .1) (p .2) in
+      let f = ap (λ n. eqb (n / 2 ^ p .0 % 2) 1) e ∙ none-has (p .0) in
+      let z : _≡_ {A = ℕ} 0 1 = cc in omega arith)),
+)
 
 -- the number of ones is the number of groups: one test that computes over all 256 sets
 abbrev counted : ℕ → Bool

@@ -57,16 +57,17 @@ pub record Reading (bytes : List ℕ) (k : ℕ) (units : List UnitState) : Type 
   pub back : (j : ℕ) → j < k → unitBytes (getD units j zeroUnit) ≡ take 4 (drop (4 * j) bytes)
 
 pub reading-more : (bytes : List ℕ) (k : ℕ) (units : List UnitState) (u : UnitState) → length bytes ≡ 24 → k < 6 → Reading bytes k units
-  → u ≡ unitOf (getD bytes (4 * k) 0 ∷ getD bytes (4 * k + 1) 0 ∷ getD bytes (4 * k + 2) 0 ∷ getD bytes (4 * k + 3) 0 ∷ [])
-  → unitBytes u ≡ getD bytes (4 * k) 0 ∷ getD bytes (4 * k + 1) 0 ∷ getD bytes (4 * k + 2) 0 ∷ getD bytes (4 * k + 3) 0 ∷ []
-  → Reading bytes (k + 1) (set units k u)
+    → u ≡ unitOf (getD bytes (4 * k) 0 ∷ getD bytes (4 * k + 1) 0 ∷ getD bytes (4 * k + 2) 0 ∷ getD bytes (4 * k + 3) 0 ∷ [])
+    → unitBytes u ≡ getD bytes (4 * k) 0 ∷ getD bytes (4 * k + 1) 0 ∷ getD bytes (4 * k + 2) 0 ∷ getD bytes (4 * k + 3) 0 ∷ []
+    → Reading bytes (k + 1) (set units k u)
 reading-more bytes k units u n h r is back =
     let e = four-at bytes (4 * k) (omega (arith, n)) in
     let here = getD-set-same units k u zeroUnit (omega (arith, r .six)) in
-    record
-      { six = length-set units k u ∙ r .six
-      ; is = below-more _ _ (λ j l. let ne : j ≢ k = omega arith in getD-set-other units k j u zeroUnit ne ∙ r .is j l) (here ∙ is ∙ ap unitOf e)
-      ; back = below-more _ _ (λ j l. let ne : j ≢ k = omega arith in ap unitBytes (getD-set-other units k j u zeroUnit ne) ∙ r .back j l) (ap unitBytes here ∙ back ∙ e) }
+    record {
+      six = length-set units k u ∙ r .six;
+      is = below-more _ _ (λ j l. let ne : j ≢ k = omega arith in getD-set-other units k j u zeroUnit ne ∙ r .is j l) (here ∙ is ∙ ap unitOf e);
+      back = below-more _ _ (λ j l. let ne : j ≢ k = omega arith in ap unitBytes (getD-set-other units k j u zeroUnit ne) ∙ r .back j l) (ap unitBytes here ∙ back ∙ e);
+    }
 
 pub state-read : (bytes : List ℕ) (units : List UnitState) → Reading bytes 6 units → _≡_ {A = State} (record { units = units }) (stateOf bytes)
 unfolding stateOf
@@ -90,15 +91,16 @@ pub record Writing (units : List UnitState) (k : ℕ) (bytes : List ℕ) : Type 
   pub back : (j : ℕ) → j < k → unitOf (unitBytes (getD units j zeroUnit)) ≡ getD units j zeroUnit
 
 pub writing-more : (units : List UnitState) (k : ℕ) (bytes ys : List ℕ) (m : ℕ) → length units ≡ 6 → k < 6 → m ≡ 4 → Writing units k bytes
-  → ys ≡ unitBytes (getD units k zeroUnit) → unitOf ys ≡ getD units k zeroUnit → Writing units (k + 1) (putMid (4 * k) m bytes ys)
+    → ys ≡ unitBytes (getD units k zeroUnit) → unitOf ys ≡ getD units k zeroUnit → Writing units (k + 1) (putMid (4 * k) m bytes ys)
 writing-more units k bytes ys m n h w r is back =
     let four : length ys ≡ 4 = ap length is in
-    record
-      { long = simp (length-append, length-take, length-drop) (omega (arith, r .long))
-      ; six = λ _. n
-      ; is = take-putMid (4 * k) m bytes ys (4 * (k + 1)) (omega arith) (omega (arith, r .long))
-          ∙ ap (λ xs. xs ++ ys) (r .is) ∙ ap (λ xs. joined unitBytes (take k units) ++ xs) is ∙ joined-on unitBytes units k zeroUnit (omega (arith, n))
-      ; back = below-more _ _ (r .back) (ap unitOf (sym is) ∙ back) }
+    record {
+      long = simp (length-append, length-take, length-drop) (omega (arith, r .long));
+      six = λ _. n;
+      is = take-putMid (4 * k) m bytes ys (4 * (k + 1)) (omega arith) (omega (arith, r .long))
+          ∙ ap (λ xs. xs ++ ys) (r .is) ∙ ap (λ xs. joined unitBytes (take k units) ++ xs) is ∙ joined-on unitBytes units k zeroUnit (omega (arith, n));
+      back = below-more _ _ (r .back) (ap unitOf (sym is) ∙ back);
+    }
 
 pub state-written : (s : State) (bytes : List ℕ) → Writing (s .units) 6 bytes → bytes ≡ stateBytes s
 unfolding stateBytes
@@ -107,7 +109,7 @@ state-written s bytes w =
 
 -- six units, read from their bytes
 six-units : (a b c d e f : UnitState) → unitOf (unitBytes a) ≡ a → unitOf (unitBytes b) ≡ b → unitOf (unitBytes c) ≡ c → unitOf (unitBytes d) ≡ d → unitOf (unitBytes e) ≡ e → unitOf (unitBytes f) ≡ f
-  → stateOf (joined unitBytes (a ∷ b ∷ c ∷ d ∷ e ∷ f ∷ [])) ≡ record { units = a ∷ b ∷ c ∷ d ∷ e ∷ f ∷ [] }
+    → stateOf (joined unitBytes (a ∷ b ∷ c ∷ d ∷ e ∷ f ∷ [])) ≡ record { units = a ∷ b ∷ c ∷ d ∷ e ∷ f ∷ [] }
 unfolding stateOf
 six-units a b c d e f p q r s t u = cc
 

@@ -27,7 +27,12 @@ impl UnitState {
         ensures is { λ r. ⌜ r ≡ unitBytes (now (self .entry)) ⌝ }
         ensures back { λ r. ⌜ unitOf r ≡ now (self .entry) ⌝ }
     {
-        [self.location, byte_of(self.first), byte_of(self.second), self.groups.bits]
+        [
+            self.location,
+            byte_of(self.first),
+            byte_of(self.second),
+            self.groups.bits,
+        ]
     }
 }
 
@@ -37,7 +42,12 @@ fn read_state(bytes: &[u8]) -> State
     ensures is { λ r. ⌜ r ≡ stateOf (now (bytes .entry)) ⌝ }
     ensures back { λ r. ⌜ stateBytes r ≡ now (bytes .entry) ⌝ }
 {
-    let mut units = [UnitState { location: 0, first: 0, second: 0, groups: GroupSet { bits: 0 } }; UNITS];
+    let mut units = [UnitState {
+        location: 0,
+        first: 0,
+        second: 0,
+        groups: GroupSet { bits: 0 },
+    }; UNITS];
     for k in 0..UNITS {
         let at = 4 * k;
         units[k] = UnitState::from_bytes([bytes[at], bytes[at + 1], bytes[at + 2], bytes[at + 3]]);

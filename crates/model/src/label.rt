@@ -1,6 +1,6 @@
 use crate::group_set::GroupSet;
-use crate::value::Value;
 use crate::group_set::GroupSetDebug;
+use crate::value::Value;
 
 /// What is seen of a step.
 #[derive(Clone, Copy, Debug)]

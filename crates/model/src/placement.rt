@@ -1,7 +1,7 @@
 ghost use Prim.Native.Nat.{_≤_};
 use crate::group_set::GroupSet;
-use crate::unit_state::UNITS;
 use crate::group_set::GroupSetDebug;
+use crate::unit_state::UNITS;
 
 /// A placement: 1 to 6 units with their group sets. The slots past the last unit say nothing.
 #[derive(Clone, Copy, Debug)]

@@ -36,6 +36,11 @@ impl BadUnitCount {
     pub fn refusal(&self) -> Refusal
         ensures { λ r. ⌜ Some r ≡ unitsRefusal (now (self .entry)) ⌝ }
     {
-        Refusal { question: 5, side: Side::Left, item: 0, step: 0 }
+        Refusal {
+            question: 5,
+            side: Side::Left,
+            item: 0,
+            step: 0,
+        }
     }
 }

@@ -34,6 +34,11 @@ impl Backward {
     pub fn refusal(&self) -> Refusal
         ensures { λ r. ⌜ Some r ≡ rangeRefusal (now (self .entry)) ⌝ }
     {
-        Refusal { question: 1, side: Side::Left, item: 0, step: 0 }
+        Refusal {
+            question: 1,
+            side: Side::Left,
+            item: 0,
+            step: 0,
+        }
     }
 }

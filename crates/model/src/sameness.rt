@@ -21,9 +21,13 @@ pub impl Same for Label as LabelSame {
         match (*self, *other) {
             (Label::Silent, Label::Silent) => true,
             (Label::Movement, Label::Movement) => true,
-            (Label::Broadcast { groups, value }, Label::Broadcast { groups: g, value: v }) => {
-                groups.bits == g.bits && value == v
-            }
+            (
+                Label::Broadcast { groups, value },
+                Label::Broadcast {
+                    groups: g,
+                    value: v,
+                },
+            ) => { groups.bits == g.bits && value == v }
             (Label::Receive { groups }, Label::Receive { groups: g }) => groups.bits == g.bits,
             _ => false,
         }

@@ -1,8 +1,8 @@
 ghost use mathlib.Core.Path.{_≡_};
 ghost use Rattle.std.specs.Orderings.{Decides};
 use crate::group_set::GroupSet;
-use crate::value::Value;
 use crate::group_set::GroupSetDebug;
+use crate::value::Value;
 
 /// How many units a state has room for.
 pub const UNITS: usize = 6;

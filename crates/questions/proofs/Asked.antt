@@ -31,19 +31,19 @@ pub append-none : {A : Type 0} (xs ys : List (Question A)) → firstNo xs ≡ No
 append-none [] ys e = refl
 append-none (q ∷ xs) ys e =
     elim (q .yes) as (λ b. cond b (firstNo xs) (Some (q .says)) ≡ None → cond b (firstNo (xs ++ ys)) (Some (q .says)) ≡ firstNo ys)
-      [ true ↦ (λ h. append-none xs ys h) | false ↦ (λ h. absurd (some-none _ _ refl h)) ] e
+    [ true ↦ (λ h. append-none xs ys h) | false ↦ (λ h. absurd (some-none _ _ refl h)) ] e
 
 pub append-some : {A : Type 0} (xs ys : List (Question A)) (t : A) → firstNo xs ≡ Some t → firstNo (xs ++ ys) ≡ Some t
 append-some [] ys t e = absurd (some-none _ _ e refl)
 append-some (q ∷ xs) ys t e =
     elim (q .yes) as (λ b. cond b (firstNo xs) (Some (q .says)) ≡ Some t → cond b (firstNo (xs ++ ys)) (Some (q .says)) ≡ Some t)
-      [ true ↦ (λ h. append-some xs ys t h) | false ↦ (λ h. h) ] e
+    [ true ↦ (λ h. append-some xs ys t h) | false ↦ (λ h. h) ] e
 
 pub append-left : {A : Type 0} (xs ys : List (Question A)) → firstNo (xs ++ ys) ≡ None → firstNo xs ≡ None
 append-left [] ys e = refl
 append-left (q ∷ xs) ys e =
     elim (q .yes) as (λ b. cond b (firstNo (xs ++ ys)) (Some (q .says)) ≡ None → cond b (firstNo xs) (Some (q .says)) ≡ None)
-      [ true ↦ (λ h. append-left xs ys h) | false ↦ (λ h. absurd (some-none _ _ refl h)) ] e
+    [ true ↦ (λ h. append-left xs ys h) | false ↦ (λ h. absurd (some-none _ _ refl h)) ] e
 
 pub append-right : {A : Type 0} (xs ys : List (Question A)) → firstNo (xs ++ ys) ≡ None → firstNo ys ≡ None
 append-right xs ys e = sym (append-none xs ys (append-left xs ys e)) ∙ e
@@ -63,7 +63,7 @@ pub first-restated : {A B : Type 0} (f : A → B) (qs : List (Question A)) → f
 first-restated f [] = refl
 first-restated f (q ∷ qs) =
     elim (q .yes) as (λ b. cond b (firstNo (restated f qs)) (Some (f (q .says))) ≡ through f (cond b (firstNo qs) (Some (q .says))))
-      [ true ↦ first-restated f qs | false ↦ refl ]
+    [ true ↦ first-restated f qs | false ↦ refl ]
 
 module _ {X A : Type 0} (f : ℕ → X → List (Question A)) where
   -- a loop over a list: what is left to ask has the first no of all

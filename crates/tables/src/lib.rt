@@ -92,7 +92,11 @@ pub fn check<R: Drop, L: Layout<R>>(layout: &L, bytes: &[u8]) -> Result<(), Tabl
 }
 
 /// The records of a table. Memory is asked for once every question is answered yes.
-pub fn load<R: Drop, L: Layout<R>>(layout: &L, heap: Global, bytes: &[u8]) -> Result<Vec<R>, TableFault>
+pub fn load<R: Drop, L: Layout<R>>(
+    layout: &L,
+    heap: Global,
+    bytes: &[u8],
+) -> Result<Vec<R>, TableFault>
     ensures answers { λ r. ⌜ Answers r (L·Layout .width (now (layout .entry))) (L·Layout .most (now (layout .entry))) (L·Layout .parse (now (layout .entry))) (now (bytes .entry)) ⌝ }
     ensures loads { λ r. ⌜ made r (λ v. vec-items v ≡ gathered (L·Layout .parse (now (layout .entry))) (records (L·Layout .width (now (layout .entry))) (now (bytes .entry)))) ⌝ }
 {

@@ -15,6 +15,7 @@ loop-k-again g c =
 pub returns : need.returns
 returns g c =
     let parse = g .L·Layout .parse (c .args .layout .now) in
-    record
-      { answers = c .in-Continue-check .ensures tt
-      ; loads = loaded-all parse _ _ (g .L·Layout .most (c .args .layout .now)) (c .width-width .ensures .is) (c .args .bytes .now) (c .loop-k .k) _ (c .loop-k-test .left) (c .loop-k .inv) }
+    record {
+      answers = c .in-Continue-check .ensures tt;
+      loads = loaded-all parse _ _ (g .L·Layout .most (c .args .layout .now)) (c .width-width .ensures .is) (c .args .bytes .now) (c .loop-k .k) _ (c .loop-k-test .left) (c .loop-k .inv);
+    }

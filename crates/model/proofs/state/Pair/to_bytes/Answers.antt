@@ -16,6 +16,7 @@ returns c =
     let r = c .copy-from-slice-2 .ensures .after in
     let e = pair-written (c .args .self .now) (c .copy-from-slice .last .self) _ _ n refl (l ∙ c .to-bytes .ensures .is) (r ∙ c .to-bytes-2 .ensures .is) in
     let k = ap length (sym (l ∙ c .to-bytes .ensures .is)) ∙ n in
-    record
-      { is = e
-      ; back = ap pairOf e ∙ pair-kept (c .args .self .now) _ _ k (ap stateOf (sym (c .to-bytes .ensures .is)) ∙ c .to-bytes .ensures .back) (ap stateOf (sym (c .to-bytes-2 .ensures .is)) ∙ c .to-bytes-2 .ensures .back) }
+    record {
+      is = e;
+      back = ap pairOf e ∙ pair-kept (c .args .self .now) _ _ k (ap stateOf (sym (c .to-bytes .ensures .is)) ∙ c .to-bytes .ensures .back) (ap stateOf (sym (c .to-bytes-2 .ensures .is)) ∙ c .to-bytes-2 .ensures .back);
+    }

@@ -12,6 +12,7 @@ returns c =
     let n : length (c .args .bytes) ≡ 4 = search needs in
     let f : SFits w8 (c .value-of .result) = search needs in
     let s : SFits w8 (c .value-of-2 .result) = search needs in
-    record
-      { is = search needs
-      ; back = unit-back (c .args .bytes) _ _ _ _ n (toZ-ofZ w8 _ f) (toZ-ofZ w8 _ s) (c .value-of .ensures .back) (c .value-of-2 .ensures .back) }
+    record {
+      is = search needs;
+      back = unit-back (c .args .bytes) _ _ _ _ n (toZ-ofZ w8 _ f) (toZ-ofZ w8 _ s) (c .value-of .ensures .back) (c .value-of-2 .ensures .back);
+    }

@@ -1,0 +1,4 @@
+// Mobility rules: which placements of the units are allowed.
+pub mod both;
+pub mod rule;
+pub mod tuner;
