@@ -13,6 +13,9 @@ use Rattle.model.specs.declared.group_set.GroupSet.{GroupSet}
 abbrev pub has : GroupSet → ℕ → Bool
 has s g = eqb (s .bits / 2 ^ g % 2) 1
 
+abbrev pub noGroups : GroupSet
+noGroups = record { bits = 0 }
+
 -- the groups of a set, in order
 unfoldable pub groupsOf : GroupSet → List ℕ
 groupsOf s = kept-by (has s) (counting 0 8)

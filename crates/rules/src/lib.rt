@@ -1,4 +1,8 @@
 // Mobility rules: which placements of the units are allowed.
 pub mod both;
+pub mod fault;
+pub mod link;
+pub mod place;
 pub mod rule;
 pub mod tuner;
+mod tuners;

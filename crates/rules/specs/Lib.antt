@@ -1,0 +1,4 @@
+pub mod Faults
+pub mod LinkRecords
+pub mod Places
+pub mod Tuners
