@@ -1,4 +1,6 @@
 pub mod Faults
 pub mod LinkRecords
+pub mod LinkRules
+pub mod Parkings
 pub mod Places
 pub mod Tuners

@@ -27,7 +27,12 @@ impl RuleFault {
             RuleFault::Limit => (4, 0),
             RuleFault::Memory => return None,
         };
-        Some(Refusal { question, side: Side::Left, item, step: 0 })
+        Some(Refusal {
+            question,
+            side: Side::Left,
+            item,
+            step: 0,
+        })
     }
 }
 

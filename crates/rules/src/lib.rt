@@ -2,6 +2,8 @@
 pub mod both;
 pub mod fault;
 pub mod link;
+pub mod links;
+pub mod parking;
 pub mod place;
 pub mod rule;
 pub mod tuner;

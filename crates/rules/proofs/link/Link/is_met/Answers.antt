@@ -12,9 +12,10 @@ use Rattle.rules.proofs.link.Link.is_met.Needs.{then-self-sets·by·then-self-
 pub returns-then-self-sets : need.returns-then-self-sets
 returns-then-self-sets c =
     not-met (c .args .sets .now) (c .args .self .now)
-      (elim (c .then-self-sets .came)
-        [ then-self-sets·by·then-self-sets w ↦ inl (w .if-self-sets .taken)
-        | then-self-sets·by·else-self-sets·then-self-sets-2 w ↦ inr (w .if-self-sets-2 .taken) ])
+    (elim (c .then-self-sets .came) [
+      | then-self-sets·by·then-self-sets w ↦ inl (w .if-self-sets .taken)
+      | then-self-sets·by·else-self-sets·then-self-sets-2 w ↦ inr (w .if-self-sets-2 .taken)
+    ])
 
 pub returns-in-Joined : need.returns-in-Joined
 returns-in-Joined c =
