@@ -8,5 +8,6 @@ pub mod range;
 mod ranges;
 pub mod sameness;
 pub mod state;
+pub mod text;
 pub mod unit_state;
 pub mod value;
