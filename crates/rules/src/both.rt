@@ -3,7 +3,7 @@ use crate::rule::Rule;
 use model::placement::Placement;
 
 /// What both of two rules allow.
-#[derive(Clone, Copy, Debug)]
+#[derive(Drop)]
 pub struct Both<A, B> {
     pub one: A,
     pub other: B,

@@ -7,4 +7,4 @@ pub mod parking;
 pub mod place;
 pub mod rule;
 pub mod tuner;
-mod tuners;
+pub mod tuners;
