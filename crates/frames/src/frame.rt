@@ -13,6 +13,7 @@ pub const RECORD: usize = 64;
 
 /// The shortest and the longest input.
 pub const SHORTEST: usize = 128;
+
 pub const LONGEST: usize = 65536;
 
 /// Why an input is no job.
@@ -29,8 +30,18 @@ impl FrameFault {
         ensures { λ r. ⌜ r ≡ frameRefusal (now (self .entry)) ⌝ }
     {
         match *self {
-            FrameFault::Length => Refusal { question: 22, side: Side::Left, item: 0, step: 0 },
-            FrameFault::Record { number } => Refusal { question: 23, side: Side::Left, item: number, step: 0 },
+            FrameFault::Length => Refusal {
+                question: 22,
+                side: Side::Left,
+                item: 0,
+                step: 0,
+            },
+            FrameFault::Record { number } => Refusal {
+                question: 23,
+                side: Side::Left,
+                item: number,
+                step: 0,
+            },
         }
     }
 }

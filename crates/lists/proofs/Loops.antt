@@ -63,3 +63,11 @@ gathered-suc f (z ∷ zs) (suc k) x y at e = added-append (f z) _ _ _ (gathered-
 
 pub gathered-more : {X Y : Type 0} (f : X → Option Y) (xs : List X) (k : ℕ) (x : X) (y : Y) → nth xs k ≡ Some x → f x ≡ Some y → gathered f (take (k + 1) xs) ≡ gathered f (take k xs) ++ y ∷ []
 gathered-more f xs k x y at e = rw add-one (gathered-suc f xs k x y at e)
+
+gathered-suc-none : {X Y : Type 0} (f : X → Option Y) (xs : List X) (k : ℕ) (x : X) → nth xs k ≡ Some x → f x ≡ None → gathered f (take (suc k) xs) ≡ gathered f (take k xs)
+gathered-suc-none f [] k x at e = absurd (some-none _ _ at refl)
+gathered-suc-none f (z ∷ zs) zero x at e = let s : z ≡ x = cc in ap (λ o. added o []) (ap f s ∙ e)
+gathered-suc-none f (z ∷ zs) (suc k) x at e = ap (added (f z)) (gathered-suc-none f zs k x at e)
+
+pub gathered-skip : {X Y : Type 0} (f : X → Option Y) (xs : List X) (k : ℕ) (x : X) → nth xs k ≡ Some x → f x ≡ None → gathered f (take (k + 1) xs) ≡ gathered f (take k xs)
+gathered-skip f xs k x at e = rw add-one (gathered-suc-none f xs k x at e)
