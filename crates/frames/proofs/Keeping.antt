@@ -17,11 +17,12 @@ use Rattle.lists.proofs.Loops.{gathered-more, gathered-skip}
 use Rattle.lists.proofs.Records.{length-records}
 use Rattle.model.specs.Bytes.{pairOf}
 use Rattle.model.specs.declared.state.Pair.{Pair}
+use Rattle.questions.specs.Sides.{sideByte}
 use Rattle.questions.specs.declared.Side.{Side}
 use Rattle.frames.specs.declared.payloads.Payloads.{Payloads}
 use Rattle.frames.specs.declared.payloads.Kind.{Kind}
 use Rattle.frames.specs.declared.payloads.Kind.the-variants.{Row, Link}
-use Rattle.frames.specs.Payloads.{Kept, payload, payloadsOf, kindByte, sideByte, widthOf, sideBytes, relationOf}
+use Rattle.frames.specs.Payloads.{Kept, payload, payloadsOf, kindByte, widthOf, sideBytes, relationOf}
 
 -- a payload for which there is room is written behind the others
 pub kept-added : (all ys zs bytes : List ℕ) (p : Payloads) (m : ℕ) → Kept all p → zs ≡ ys → p .len + length ys ≤ 1024 → m ≡ length ys → bytes ≡ putMid (p .len) m (p .bytes) zs

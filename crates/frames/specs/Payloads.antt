@@ -8,6 +8,7 @@ use lib.ListN.{length, getD, take, drop}
 use Rattle.std.specs.Joined.{joined}
 use Rattle.std.specs.declared.option.Option.{Option}
 use Rattle.lists.specs.Words.{given, records, gathered}
+use Rattle.questions.specs.Sides.{sideByte}
 use Rattle.questions.specs.declared.Side.{Side}
 use Rattle.questions.specs.declared.Side.the-variants.{Left, Right}
 use Rattle.model.specs.Values.{valueOf}
@@ -17,11 +18,6 @@ use Rattle.frames.specs.declared.setting.Setting.{Setting}
 use Rattle.frames.specs.declared.payloads.Kind.{Kind}
 use Rattle.frames.specs.declared.payloads.Kind.the-variants.{Row, Link}
 use Rattle.frames.specs.declared.payloads.Payloads.{Payloads}
-
--- the side's byte
-abbrev pub sideByte : Side → ℕ
-sideByte Left = 0
-sideByte Right = 1
 
 abbrev pub kindByte : Kind → ℕ
 kindByte Row = 2

@@ -8,7 +8,7 @@ ghost use Rattle.std.specs.Options.{Cases};
 ghost use Rattle.std.specs.Vec.{made};
 ghost use Rattle.std.specs.Of.Vec.{vec-items};
 ghost use Rattle.model.specs.Bytes.{pairOf};
-ghost use Rattle.frames.specs.Payloads.{kindByte, sideByte, widthOf, sideBytes, settingAt, settingOf, relationOf, Kept};
+ghost use Rattle.frames.specs.Payloads.{kindByte, widthOf, sideBytes, settingAt, settingOf, relationOf, Kept};
 use crate::frame::RECORD;
 use crate::frame::nth_record;
 use crate::payloads::Kind;
@@ -39,15 +39,6 @@ impl Kind {
             Kind::Row => 16,
             Kind::Link => 3,
         }
-    }
-}
-
-fn side_byte(side: Side) -> u8
-    ensures { λ r. ⌜ r ≡ sideByte side ⌝ }
-{
-    match side {
-        Side::Left => 0,
-        Side::Right => 1,
     }
 }
 
@@ -122,7 +113,7 @@ pub fn payloads(bytes: &[u8], kind: Kind, side: Side) -> Payloads
     ensures { λ r. ⌜ Kept (sideBytes kind side (now (bytes .entry))) r ⌝ }
 {
     let kind_byte = kind.byte();
-    let side_byte = side_byte(side);
+    let side_byte = side.byte();
     let width = kind.width();
     let mut all = Payloads {
         len: 0,

@@ -12,4 +12,4 @@ loop-k-again c =
 
 pub returns : need.returns
 returns c =
-    gathered-all (c .args .kind) (c .args .side) _ _ _ (c .loop-k .k) (c .args .bytes .now) (c .loop-k .all) (c .byte-kind-byte .ensures) (c .side-byte-side-byte .ensures) (c .width-width .ensures) (c .loop-k-test .left) (c .loop-k .inv)
+    gathered-all (c .args .kind) (c .args .side) _ _ _ (c .loop-k .k) (c .args .bytes .now) (c .loop-k .all) (c .byte-kind-byte .ensures) (c .byte-side-byte .ensures) (c .width-width .ensures) (c .loop-k-test .left) (c .loop-k .inv)

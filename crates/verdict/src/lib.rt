@@ -1,0 +1,2 @@
+// The 16 bytes of a verdict.
+pub mod answer;
