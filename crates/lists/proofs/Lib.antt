@@ -5,3 +5,4 @@ pub mod Listed
 pub mod Members
 pub mod Ordered
 pub mod Adding
+pub mod Gathered

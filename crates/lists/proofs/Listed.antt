@@ -172,9 +172,9 @@ digits-more d f m j out rest size x goal h l v e g =
     let within : j < length out = omega arith in
     let ds = digits d (map f (counting (j + 1) (m - (j + 1)))) (rest % size) in
     let split : digits d (map f (counting j (m - j))) rest ≡ x ∷ ds =
-        ap (λ ks. digits d (map f ks) rest) (counting-more j m h)
-        ∙ ap (λ n. getD (f j) (rest / n) d ∷ digits d (map f (counting (j + 1) (m - (j + 1)))) (rest % n)) (sym v)
-        ∙ ap (λ y. y ∷ ds) (sym e) in
+    ap (λ ks. digits d (map f ks) rest) (counting-more j m h)
+    ∙ ap (λ n. getD (f j) (rest / n) d ∷ digits d (map f (counting (j + 1) (m - (j + 1)))) (rest % n)) (sym v)
+    ∙ ap (λ y. y ∷ ds) (sym e) in
     ap (λ front. front ++ ds) (take-more-set out j x within) ∙ append-assoc (take j out) (x ∷ []) ds ∙ ap (λ back. take j out ++ back) (sym split) ∙ g
 
 -- A loop that writes the digits of i into out, the slowest first. It has come to the list j: size is the volume of the lists from j on, and rest what remains of i.
