@@ -4,12 +4,12 @@ use mathlib.Core.Bool.{Bool, true, false, cond}
 use mathlib.Core.List.{List, [], _∷_, _++_, map}
 use Prim.Native.Nat.{ℕ, zero, suc, _+_, _-_, _≤_, _<_}
 use native.Mathlib.Omega.{arith}
-use lib.ListN.{length, take}
+use lib.ListN.{length, getD, take}
 use Rattle.std.specs.Iters.{counting}
 use Rattle.std.specs.shelf.Lists.{joined, kept-by}
 use Rattle.std.specs.shelf.Maps.{nth}
 use Rattle.std.specs.declared.option.Option.the-variants.{Some, None}
-use Rattle.std.proofs.shelf.Lists.{append-nil, append-assoc, map-append, take-all}
+use Rattle.std.proofs.shelf.Lists.{append-nil, append-assoc, map-append, map-more, take-all}
 use Rattle.std.proofs.shelf.Elements.{kept-by-append}
 use Rattle.lists.proofs.Listed.{joined-append, counting-push}
 
@@ -57,3 +57,11 @@ module _ {Y : Type 0} (xs : List Y) (k : ℕ) (was now : List Y) (inv : now ≡ 
 
   pub copying-all : length xs ≤ k → now ≡ was ++ xs
   copying-all l = inv ∙ ap (λ ys. was ++ ys) (take-all k xs l)
+
+-- a loop that adds what f makes of each element of xs; d is what the code reads past the end
+module _ {X Y : Type 0} (f : X → Y) (xs : List X) (k : ℕ) (now : List Y) (inv : now ≡ map f (take k xs)) where
+  pub mapping-more : (d : X) (y : Y) (next : List Y) → k < length xs → y ≡ f (getD xs k d) → next ≡ now ++ (y ∷ []) → next ≡ map f (take (k + 1) xs)
+  mapping-more d y next h e n = n ∙ ap (λ l. l ++ (y ∷ [])) inv ∙ ap (λ z. map f (take k xs) ++ (z ∷ [])) e ∙ sym (map-more f xs k d h)
+
+  pub mapping-all : length xs ≤ k → now ≡ map f xs
+  mapping-all l = inv ∙ ap (map f) (take-all k xs l)

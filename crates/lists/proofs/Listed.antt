@@ -161,6 +161,10 @@ unfolding product volume digits
 volume-push f j =
     ap volume (map-counting-more f 0 j j (omega arith)) ∙ volume-append (map f (counting 0 j)) (f j ∷ []) ∙ ap (λ n. volume (map f (counting 0 j)) * n) (mul-one (length (f j)))
 
+-- a loop that multiplies the lengths together
+pub multiplied-more : {X : Type 0} (f : ℕ → List X) (j size c : ℕ) → size ≡ volume (map f (counting 0 j)) → c ≡ length (f j) → size * c ≡ volume (map f (counting 0 (j + 1)))
+multiplied-more f j size c e h = ap (λ n. n * c) e ∙ ap (λ n. volume (map f (counting 0 j)) * n) h ∙ sym (volume-push f j)
+
 pub volume-more : {X : Type 0} (f : ℕ → List X) (j m : ℕ) → j < m → volume (map f (counting j (m - j))) ≡ length (f j) * volume (map f (counting (j + 1) (m - (j + 1))))
 unfolding product volume digits
 volume-more f j m h = ap (λ ks. volume (map f ks)) (counting-more j m h)
@@ -272,3 +276,9 @@ sift-none p f m k left goal inv h = sym (ap (λ ks. nth (map f (kept-by p ks)) l
 
 pub sifted-all : {Y : Type 0} (p : ℕ → Bool) (f : ℕ → Y) (m k n : ℕ) → (n ≡ length (kept-by p (counting 0 k))) × (n ≤ k) → k ≤ m → m ≤ k → (n ≡ length (map f (kept-by p (counting 0 m)))) × (n ≤ m)
 sifted-all p f m k n inv h l = (inv .0 ∙ ap (λ x. length (kept-by p (counting 0 x))) (let e : k ≡ m = omega arith in e) ∙ sym (length-map (kept-by p (counting 0 m)) f), omega (arith, inv .1))
+
+-- the first n of what a function gives of the numbers from a on
+pub take-map-counting : {X : Type 0} (f : ℕ → X) (a m n : ℕ) → n ≤ m → take n (map f (counting a m)) ≡ map f (counting a n)
+take-map-counting f a m zero h = refl
+take-map-counting f a zero (suc n) h = absurd (omega arith)
+take-map-counting f a (suc m) (suc n) h = ap (λ xs. f a ∷ xs) (take-map-counting f (a + 1) m n (omega arith))
