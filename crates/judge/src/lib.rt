@@ -1,0 +1,4 @@
+// The judge: whether a relation between two systems is a late strong bisimulation. One text for every two systems, which
+// are known by their meaning alone.
+pub mod comparison;
+pub mod reply;

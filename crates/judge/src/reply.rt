@@ -1,0 +1,59 @@
+ghost use mathlib.Core.Path.{_≡_};
+ghost use mathlib.Core.Bool.{true};
+ghost use lib.IntN.{ℤ};
+ghost use Rattle.std.specs.Orderings.{Decides};
+ghost use Rattle.std.specs.declared.option.Option.the-variants.{Some};
+ghost use Rattle.lists.specs.Words.{FirstOf};
+ghost use Rattle.systems.specs.Meaning.{receives, inRangeOf};
+ghost use Rattle.judge.specs.Comparing.{meant, OneRange, systemOn, labelOn, opposed};
+ghost use Rattle.judge.specs.Likeness.{LandsAt, Reply};
+use crate::comparison::Comparison;
+use crate::comparison::opposite;
+use crate::comparison::pair_from;
+use lookup::Same;
+use lookup::first_equal;
+use model::label::Label;
+use model::sameness::LabelSame;
+use model::sameness::PairSame;
+use model::state::Pair;
+use model::value::Value;
+use questions::Side;
+use systems::System;
+
+fn is_receive(label: &Label) -> bool
+    ensures { λ r. ⌜ r ≡ receives (now (label .entry)) ⌝ }
+{
+    match *label {
+        Label::Silent | Label::Movement => false,
+        Label::Broadcast { groups: _, value: _ } => false,
+        Label::Receive { groups: _ } => true,
+    }
+}
+
+impl<L: System, R: System> Comparison<'_, L, R> {
+    /// Whether both steps land at the value, and their landings form a record of the relation.
+    fn lands_at(&self, side: Side, pair: &Pair, step: u64, reply: u64, value: Value) -> bool
+        ensures { λ r. ⌜ Decides r (LandsAt (meant (L·System .means) (R·System .means) (now (self .entry))) side (now (pair .entry)) step reply value) ⌝ }
+    {
+        let Some(own) = self.landing(side, pair, step, value) else {
+            return false;
+        };
+        let Some(other) = self.landing(opposite(side), pair, reply, value) else {
+            return false;
+        };
+        first_equal(self.relation, &pair_from(side, own, other)).is_some()
+    }
+
+    /// The same at every value in the range.
+    fn lands_at_each(&self, side: Side, pair: &Pair, step: u64, reply: u64) -> bool
+        ensures { λ r. ⌜ Decides r ((v : ℤ) → inRangeOf (meant (L·System .means) (R·System .means) (now (self .entry)) .left) v ≡ true → LandsAt (meant (L·System .means) (R·System .means) (now (self .entry))) side (now (pair .entry)) step reply v) ⌝ }
+    {
+        let range = self.left.range();
+        for value in range.lo..range.hi {
+            if !self.lands_at(side, pair, step, reply, value) {
+                return false;
+            }
+        }
+        self.lands_at(side, pair, step, reply, range.hi)
+    }
+}
