@@ -1,11 +1,12 @@
 ghost use mathlib.Core.Path.{_≡_};
 ghost use mathlib.Core.Bool.{true};
 ghost use lib.IntN.{ℤ};
+ghost use lib.ListN.{length};
 ghost use Rattle.std.specs.Orderings.{Decides};
 ghost use Rattle.std.specs.declared.option.Option.the-variants.{Some};
 ghost use Rattle.lists.specs.Words.{FirstOf};
 ghost use Rattle.systems.specs.Meaning.{receives, inRangeOf};
-ghost use Rattle.judge.specs.Comparing.{meant, OneRange, systemOn, labelOn, opposed};
+ghost use Rattle.judge.specs.Comparing.{meant, OneRange, labelOn, opposed, stepsOn};
 ghost use Rattle.judge.specs.Likeness.{LandsAt, Reply};
 use crate::comparison::Comparison;
 use crate::comparison::opposite;
@@ -55,5 +56,54 @@ impl<L: System, R: System> Comparison<'_, L, R> {
             }
         }
         self.lands_at(side, pair, step, reply, range.hi)
+    }
+
+    /// Whether the step `reply` of the pair's state on the opposite side is a reply to the step on this side, which has the
+    /// label. Only a receive can land differently by value, so any other step is tried at one value.
+    fn is_reply(&self, side: Side, pair: &Pair, step: u64, label: &Label, reply: u64) -> bool
+        requires range { ⌜ OneRange (meant (L·System .means) (R·System .means) (now self)) ⌝ }
+        requires labeled { ⌜ labelOn side (meant (L·System .means) (R·System .means) (now self)) (now pair) step ≡ Some (now label) ⌝ }
+        ensures { λ r. ⌜ Decides r (Reply (meant (L·System .means) (R·System .means) (now (self .entry))) side (now (pair .entry)) step reply) ⌝ }
+    {
+        let Some(other) = self.label(opposite(side), pair, reply) else {
+            return false;
+        };
+        if !label.same(&other) {
+            return false;
+        }
+        if is_receive(label) {
+            self.lands_at_each(side, pair, step, reply)
+        } else {
+            self.lands_at(side, pair, step, reply, self.left.range().lo)
+        }
+    }
+
+    /// The first reply to the step among the `count` steps of the pair's state on the opposite side.
+    pub(crate) fn first_reply_among(&self, side: Side, pair: &Pair, step: u64, count: u64) -> Option<u64>
+        requires range { ⌜ OneRange (meant (L·System .means) (R·System .means) (now self)) ⌝ }
+        requires all { ⌜ count ≡ length (stepsOn (opposed side) (meant (L·System .means) (R·System .means) (now self)) (now pair)) ⌝ }
+        ensures { λ r. ⌜ FirstOf (Reply (meant (L·System .means) (R·System .means) (now (self .entry))) side (now (pair .entry)) step) r ⌝ }
+    {
+        let Some(label) = self.label(side, pair, step) else {
+            return None;
+        };
+        for reply in 0..count {
+            if self.is_reply(side, pair, step, &label, reply) {
+                return Some(reply);
+            }
+        }
+        None
+    }
+
+    /// The first step in list order of the pair's state on the opposite side that is a reply to the step on this side. There
+    /// is none between systems of different ranges.
+    pub fn first_reply(&self, side: Side, pair: &Pair, step: u64) -> Option<u64>
+        ensures { λ r. ⌜ FirstOf (Reply (meant (L·System .means) (R·System .means) (now (self .entry))) side (now (pair .entry)) step) r ⌝ }
+    {
+        if !self.has_one_range() {
+            return None;
+        }
+        let count = self.step_count(opposite(side), pair);
+        self.first_reply_among(side, pair, step, count)
     }
 }

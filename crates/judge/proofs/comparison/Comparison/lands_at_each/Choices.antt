@@ -3,7 +3,7 @@ use lib.IntN.{ℤ}
 use lib.Signed.{_≤ℤ_, _<ℤ_}
 use Rattle.judge.specs.Comparing.{meant}
 use Rattle.judge.specs.Likeness.{LandsAt}
-use Rattle.judge.proofs.reply.Comparison.lands_at_each.Given as given
+use Rattle.judge.proofs.comparison.Comparison.lands_at_each.Given as given
 
 abbrev pub Inv-loop-value : given.InvT-loop-value
 Inv-loop-value g l =
