@@ -70,8 +70,8 @@ module _ (c : Compared) (one : OneRange c) where
 
     decides-reply : (b : Bool) → x .label ≡ y .label → Decides b (Lands c side x y) → Decides b (Reply c side p i j)
     decides-reply b same d = decides-like b
-      (λ l. record { one-range = one; asked = x; given = y; asked-at = x-at; given-at = y-at; same-label = same; lands = l })
-      (λ r. subst (λ (z : Step). Lands c side x z) (some-same _ _ _ (r .given-at) y-at) (subst (λ (z : Step). Lands c side z (r .given)) (some-same _ _ _ (r .asked-at) x-at) (r .lands))) d
+        (λ l. record { one-range = one; asked = x; given = y; asked-at = x-at; given-at = y-at; same-label = same; lands = l })
+        (λ r. subst (λ (z : Step). Lands c side x z) (some-same _ _ _ (r .given-at) y-at) (subst (λ (z : Step). Lands c side z (r .given)) (some-same _ _ _ (r .asked-at) x-at) (r .lands))) d
 
 keeps-on : (c : Compared) → Keeps (c .left) → Keeps (c .right) → (side : Side) → Keeps (systemOn side c)
 keeps-on c l r Left = l

@@ -26,7 +26,10 @@ fn is_receive(label: &Label) -> bool
 {
     match *label {
         Label::Silent | Label::Movement => false,
-        Label::Broadcast { groups: _, value: _ } => false,
+        Label::Broadcast {
+            groups: _,
+            value: _,
+        } => false,
         Label::Receive { groups: _ } => true,
     }
 }
@@ -79,7 +82,13 @@ impl<L: System, R: System> Comparison<'_, L, R> {
     }
 
     /// The first reply to the step among the `count` steps of the pair's state on the opposite side.
-    pub(crate) fn first_reply_among(&self, side: Side, pair: &Pair, step: u64, count: u64) -> Option<u64>
+    pub(crate) fn first_reply_among(
+        &self,
+        side: Side,
+        pair: &Pair,
+        step: u64,
+        count: u64,
+    ) -> Option<u64>
         requires range { ⌜ OneRange (meant (L·System .means) (R·System .means) (now self)) ⌝ }
         requires all { ⌜ count ≡ length (stepsOn (opposed side) (meant (L·System .means) (R·System .means) (now self)) (now pair)) ⌝ }
         ensures { λ r. ⌜ FirstOf (Reply (meant (L·System .means) (R·System .means) (now (self .entry))) side (now (pair .entry)) step) r ⌝ }

@@ -35,9 +35,9 @@ impl<L: System, R: System> Comparison<'_, L, R> {
     {
         let count = self.step_count(opposite(side), pair);
         for step in 0..self.step_count(side, pair) {
-            if self.first_reply_among(side, pair, step, count).is_none() {
+            let Some(_) = self.first_reply_among(side, pair, step, count) else {
                 return Some(step);
-            }
+            };
         }
         None
     }
@@ -68,7 +68,11 @@ impl<L: System, R: System> Comparison<'_, L, R> {
 
 /// A pass with the count of records where the relation is a late strong bisimulation between the systems, and else the
 /// first no.
-pub fn judge<'a, L: System, R: System>(left: &'a L, right: &'a R, relation: &'a [Pair]) -> Result<Pass, Fault>
+pub fn judge<'a, L: System, R: System>(
+    left: &'a L,
+    right: &'a R,
+    relation: &'a [Pair],
+) -> Result<Pass, Fault>
     ensures { λ r. ⌜ Judged (comparing (L·System .means (now (left .entry))) (R·System .means (now (right .entry))) (now (relation .entry))) r ⌝ }
 {
     let comparison = Comparison {
