@@ -25,12 +25,8 @@ fn is_receive(label: &Label) -> bool
     ensures { λ r. ⌜ r ≡ receives (now (label .entry)) ⌝ }
 {
     match *label {
-        Label::Silent | Label::Movement => false,
-        Label::Broadcast {
-            groups: _,
-            value: _,
-        } => false,
-        Label::Receive { groups: _ } => true,
+        Label::Receive { .. } => true,
+        Label::Silent | Label::Movement | Label::Broadcast { .. } => false,
     }
 }
 
@@ -39,13 +35,17 @@ impl<L: System, R: System> Comparison<'_, L, R> {
     fn lands_at(&self, side: Side, pair: &Pair, step: u64, reply: u64, value: Value) -> bool
         ensures { λ r. ⌜ Decides r (LandsAt (meant (L·System .means) (R·System .means) (now (self .entry))) side (now (pair .entry)) step reply value) ⌝ }
     {
-        let Some(own) = self.landing(side, pair, step, value) else {
-            return false;
-        };
-        let Some(other) = self.landing(opposite(side), pair, reply, value) else {
-            return false;
-        };
-        first_equal(self.relation, &pair_from(side, own, other)).is_some()
+        let landings = (
+            self.landing(side, pair, step, value),
+            self.landing(opposite(side), pair, reply, value),
+        );
+        match landings {
+            (Some(own), Some(other)) => first_equal(
+                self.relation,
+                &pair_from(side, own, other),
+            ).is_some(),
+            _ => false,
+        }
     }
 
     /// The same at every value in the range.
