@@ -17,7 +17,7 @@ pub struct Comparison<'a, L, R> {
     pub relation: &'a [Pair],
 }
 
-pub fn opposite(side: Side) -> Side
+pub(crate) fn opposite(side: Side) -> Side
     ensures { λ r. ⌜ r ≡ opposed side ⌝ }
 {
     match side {
@@ -27,7 +27,7 @@ pub fn opposite(side: Side) -> Side
 }
 
 /// The pair of a state on a side and a state on the opposite side, the left one first.
-pub fn pair_from(side: Side, own: State, other: State) -> Pair
+pub(crate) fn pair_from(side: Side, own: State, other: State) -> Pair
     ensures { λ r. ⌜ r ≡ pairFrom side own other ⌝ }
 {
     match side {
@@ -44,7 +44,7 @@ pub fn pair_from(side: Side, own: State, other: State) -> Pair
 
 impl<L: System, R: System> Comparison<'_, L, R> {
     /// Whether the two systems have the same range.
-    pub fn has_one_range(&self) -> bool
+    pub(crate) fn has_one_range(&self) -> bool
         ensures { λ r. ⌜ Decides r (OneRange (meant (L·System .means) (R·System .means) (now (self .entry)))) ⌝ }
     {
         let left = self.left.range();
@@ -53,7 +53,7 @@ impl<L: System, R: System> Comparison<'_, L, R> {
     }
 
     /// How many steps the pair's state on that side has.
-    pub fn step_count(&self, side: Side, pair: &Pair) -> u64
+    pub(crate) fn step_count(&self, side: Side, pair: &Pair) -> u64
         ensures { λ r. ⌜ r ≡ length (stepsOn side (meant (L·System .means) (R·System .means) (now (self .entry))) (now (pair .entry))) ⌝ }
     {
         match side {
@@ -63,7 +63,7 @@ impl<L: System, R: System> Comparison<'_, L, R> {
     }
 
     /// The label of a step of the pair's state on that side, or none where the list has no such step.
-    pub fn label(&self, side: Side, pair: &Pair, step: u64) -> Option<Label>
+    pub(crate) fn label(&self, side: Side, pair: &Pair, step: u64) -> Option<Label>
         ensures { λ r. ⌜ r ≡ labelOn side (meant (L·System .means) (R·System .means) (now (self .entry))) (now (pair .entry)) step ⌝ }
     {
         match side {
@@ -74,7 +74,7 @@ impl<L: System, R: System> Comparison<'_, L, R> {
 
     /// Where a step of the pair's state on that side lands at a value, or none where the list has no such step or the value
     /// is out of that system's range.
-    pub fn landing(&self, side: Side, pair: &Pair, step: u64, value: Value) -> Option<State>
+    pub(crate) fn landing(&self, side: Side, pair: &Pair, step: u64, value: Value) -> Option<State>
         ensures { λ r. ⌜ r ≡ landingOn side (meant (L·System .means) (R·System .means) (now (self .entry))) (now (pair .entry)) step value ⌝ }
     {
         match side {

@@ -3,4 +3,6 @@
 pub mod comparison;
 pub mod fault;
 pub mod reply;
+#[cfg(test)]
+mod tests;
 pub mod verdict;
