@@ -1,0 +1,4 @@
+pub mod Values
+pub mod Replying
+pub mod Tested
+pub mod Exactly

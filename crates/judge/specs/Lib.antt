@@ -1,0 +1,4 @@
+pub mod Comparing
+pub mod Likeness
+pub mod Replies
+pub mod Judged
