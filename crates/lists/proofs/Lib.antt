@@ -1,3 +1,4 @@
 pub mod Places
 pub mod Loops
 pub mod Records
+pub mod Kept
