@@ -1,0 +1,4 @@
+use Rattle.sheet.proofs.steps.is_lawful.Needs as need
+
+pub returns : need.returns
+returns c = ?

@@ -1,0 +1,3 @@
+pub mod Rows
+pub mod Loading
+pub mod Meaning

@@ -1,0 +1,85 @@
+ghost use mathlib.Core.Path.{_≡_};
+ghost use mathlib.Core.List.{map};
+ghost use lib.ListN.{length};
+ghost use Rattle.std.specs.Of.Vec.{vec-items};
+ghost use Rattle.std.specs.Vec.{made};
+ghost use Rattle.std.specs.shelf.Maps.{nth};
+ghost use Rattle.sheet.specs.Meaning.{zeros, sheetLawful, numberOf, stateAt, labelOf, target, stepOf, rowsFrom, waysOf, listedRow};
+use crate::row::Kind;
+use crate::row::Row;
+use crate::sheet::Sheet;
+use model::label::Label;
+use model::range::Range;
+use model::state::State;
+use model::value::Value;
+use std::alloc::AllocError;
+use std::alloc::Global;
+use systems::listed::Listed;
+
+fn are_zeros(bytes: &[u8]) -> bool
+    ensures { λ r. ⌜ r ≡ zeros (now (bytes .entry)) ⌝ }
+{
+    for byte in bytes {
+        if *byte != 0 {
+            return false;
+        }
+    }
+    true
+}
+
+/// Any first byte, and then zeros.
+pub(crate) fn is_lawful(state: &State) -> bool
+    ensures { λ r. ⌜ r ≡ sheetLawful (now (state .entry)) ⌝ }
+{
+    are_zeros(&state.to_bytes()[1..])
+}
+
+/// The state with the number.
+fn state_at(number: u8) -> State
+    ensures { λ r. ⌜ r ≡ stateAt number ⌝ }
+{
+    let mut bytes = [0; 24];
+    bytes[0] = number;
+    State::from_bytes(bytes)
+}
+
+impl Row {
+    pub(crate) fn label(&self) -> Label
+        ensures { λ r. ⌜ r ≡ stepOf (now (self .entry)) .label ⌝ }
+    {
+        match self.kind {
+            Kind::Silent => Label::Silent,
+            Kind::Movement => Label::Movement,
+            Kind::Broadcast { groups, value } => Label::Broadcast { groups, value },
+            Kind::Receive { groups, value: _, other: _ } => Label::Receive { groups },
+        }
+    }
+
+    /// The number of the state in which the row lands for a value.
+    fn target(&self, value: Value) -> u8
+        ensures { λ r. ⌜ r ≡ target (now (self .entry) .kind) (now (self .entry) .to) value ⌝ }
+    {
+        match self.kind {
+            Kind::Receive { groups: _, value: own, other } if value != own => other,
+            _ => self.to,
+        }
+    }
+
+    pub(crate) fn landing(&self, value: Value) -> State
+        ensures { λ r. ⌜ r ≡ stepOf (now (self .entry)) .landing value ⌝ }
+    {
+        state_at(self.target(value))
+    }
+
+    /// The row as it is listed in a sheet of the range.
+    fn listed(&self, range: &Range, value: Value) -> Listed
+        ensures { λ r. ⌜ r ≡ listedRow (now (range .entry) .lo) (now (range .entry) .hi) value (now (self .entry)) ⌝ }
+    {
+        let landing = if range.holds(value) {
+            Some(self.landing(value))
+        } else {
+            None
+        };
+        Listed { label: self.label(), landing }
+    }
+}
