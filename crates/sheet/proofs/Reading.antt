@@ -4,7 +4,9 @@ use mathlib.Core.Bool.{Bool, true, false}
 use mathlib.Core.List.{List}
 use Prim.Native.Nat.{ℕ, _+_, _<_, _≤_}
 use lib.Dec.{eqb}
-use lib.ListN.{length, getD, drop}
+use native.Mathlib.Omega.{arith}
+use lib.ListN.{length, getD, take, drop}
+use Rattle.std.proofs.shelf.Lists.{length-drop, take-all}
 use Rattle.std.proofs.shelf.Maps.{nth-getD}
 use Rattle.std.proofs.shelf.Tests.{eq-eqb, ne-eqb}
 use Rattle.lists.specs.Words.{everyFrom}
@@ -20,3 +22,7 @@ module _ (bytes : List ℕ) (k : ℕ) (goal : Bool) (inv : everyFrom (λ _ b. eq
 
   pub zeros-all : length bytes ≤ k → true ≡ goal
   zeros-all h = sym (every-all (λ _ b. eqb b 0) bytes k h) ∙ inv
+
+-- the bytes after the first, as code cuts them out
+pub after-first : (bytes : List ℕ) → length bytes ≡ 24 → take 23 (drop 1 bytes) ≡ drop 1 bytes
+after-first bytes n = take-all 23 (drop 1 bytes) (simp length-drop (omega (arith, n)))

@@ -83,3 +83,83 @@ impl Row {
         Listed { label: self.label(), landing }
     }
 }
+
+/// How many of the rows start from the state with the number.
+fn count_from(rows: &[Row], number: u8) -> u64
+    ensures { λ r. ⌜ r ≡ length (rowsFrom number (now (rows .entry))) ⌝ }
+{
+    let mut count = 0;
+    for row in rows {
+        if row.from == number {
+            count += 1;
+        }
+    }
+    count
+}
+
+/// The row with the number `step` among those from the state with the number.
+fn row_from(rows: &[Row], number: u8, step: u64) -> Option<Row>
+    ensures { λ r. ⌜ r ≡ nth (rowsFrom number (now (rows .entry))) step ⌝ }
+{
+    let mut left = step;
+    for row in rows {
+        if row.from == number {
+            if left == 0 {
+                return Some(*row);
+            }
+            left -= 1;
+        }
+    }
+    None
+}
+
+/// The rows from the state with the number, as a sheet of the range lists them at the value.
+fn list_from(
+    heap: Global,
+    rows: &[Row],
+    number: u8,
+    range: &Range,
+    value: Value,
+) -> Result<Vec<Listed>, AllocError>
+    ensures { λ r. ⌜ made r (λ v. vec-items v ≡ map (listedRow (now (range .entry) .lo) (now (range .entry) .hi) value) (rowsFrom number (now (rows .entry)))) ⌝ }
+{
+    let mut steps = Vec::new(heap);
+    for row in rows {
+        if row.from == number {
+            steps.push(row.listed(range, value))?;
+        }
+    }
+    Ok(steps)
+}
+
+impl Sheet {
+    /// How many steps a lawful state has.
+    pub(crate) fn count(&self, state: &State) -> u64
+        ensures { λ r. ⌜ r ≡ length (rowsFrom (numberOf (now (state .entry))) (vec-items (now (self .entry) .rows))) ⌝ }
+    {
+        count_from(&self.rows, state.units[0].location)
+    }
+
+    /// The row that is the step of a state with the number `step`.
+    pub(crate) fn row(&self, state: &State, step: u64) -> Option<Row>
+        ensures { λ r. ⌜ r ≡ nth (waysOf (vec-items (now (self .entry) .rows)) (now (state .entry))) step ⌝ }
+    {
+        if is_lawful(state) {
+            row_from(&self.rows, state.units[0].location, step)
+        } else {
+            None
+        }
+    }
+
+    /// The steps of a lawful state, listed at the value.
+    pub(crate) fn list_rows(
+        &self,
+        heap: Global,
+        state: &State,
+        value: Value,
+    ) -> Result<Vec<Listed>, AllocError>
+        ensures { λ r. ⌜ made r (λ v. vec-items v ≡ map (listedRow (now (self .entry) .range .lo) (now (self .entry) .range .hi) value) (rowsFrom (numberOf (now (state .entry))) (vec-items (now (self .entry) .rows)))) ⌝ }
+    {
+        list_from(heap, &self.rows, state.units[0].location, &self.range, value)
+    }
+}
