@@ -23,7 +23,8 @@ use Rattle.sheet.specs.declared.row.Row.{Row}
 use Rattle.sheet.specs.declared.row.Kind.{Kind}
 use Rattle.sheet.specs.declared.row.Kind.the-variants.{Silent, Movement, Broadcast, Receive}
 use Rattle.sheet.specs.declared.sheet.Sheet.{Sheet}
-use Rattle.sheet.specs.Meaning.{stateAt, rowsFrom, waysOf, stepOf, listedRow, labelOf, target, sheetMeaning}
+use Rattle.sheet.specs.States.{stateAt}
+use Rattle.sheet.specs.Meaning.{rowsFrom, stepOf, listedRow, labelOf, target, sheetMeaning}
 
 module _ (rows : List Row) (n k : ℕ) (d : Row) (within : k < length rows) where
   abbrev from : Row → Bool

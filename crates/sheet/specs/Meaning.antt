@@ -1,15 +1,13 @@
 -- What a sheet means.
 use mathlib.Core.Bool.{Bool, cond, _&&_}
-use mathlib.Core.List.{List, [], _∷_, map}
+use mathlib.Core.List.{List, [], map}
 use Prim.Native.Nat.{ℕ}
 use lib.Dec.{eqb}
 use lib.IntN.{ℤ}
 use lib.Signed.{leZ}
-use lib.ListN.{getD, drop, replicate}
 use Rattle.std.specs.Of.Vec.{vec-items}
 use Rattle.std.specs.shelf.Lists.{kept-by}
-use Rattle.lists.specs.Words.{every, given, records, gathered}
-use Rattle.model.specs.Bytes.{zeroUnit, stateOf, stateBytes}
+use Rattle.lists.specs.Words.{given, records, gathered}
 use Rattle.model.specs.Ranges.{inRange}
 use Rattle.model.specs.declared.group_set.GroupSet.{GroupSet}
 use Rattle.model.specs.declared.label.Label.{Label}
@@ -22,21 +20,7 @@ use Rattle.sheet.specs.declared.row.Kind.{Kind}
 use Rattle.sheet.specs.declared.row.Kind.the-variants.{Silent as SilentRow, Movement as MovementRow, Broadcast as BroadcastRow, Receive as ReceiveRow}
 use Rattle.sheet.specs.declared.sheet.Sheet.{Sheet}
 use Rattle.sheet.specs.Rows.{parseRow}
-
--- the state with the number n has the first byte n, and then zeros
-abbrev pub stateAt : ℕ → State
-stateAt n = stateOf (n ∷ replicate 23 0)
-
-abbrev pub zeros : List ℕ → Bool
-zeros bytes = every (λ b. eqb b 0) bytes
-
--- a lawful state has any first byte, and then zeros
-abbrev pub sheetLawful : State → Bool
-sheetLawful s = zeros (drop 1 (stateBytes s))
-
--- the number of a state is its first byte, the location of unit 0
-abbrev pub numberOf : State → ℕ
-numberOf s = getD (s .units) 0 zeroUnit .location
+use Rattle.sheet.specs.States.{stateAt, sheetLawful, numberOf}
 
 abbrev pub labelOf : Kind → Label
 labelOf SilentRow = Silent
@@ -44,12 +28,16 @@ labelOf MovementRow = Movement
 labelOf (BroadcastRow g w) = Broadcast g w
 labelOf (ReceiveRow g w other) = Receive g
 
--- the number of the state in which a row lands for the value v: a receive lands in `to` for its own value, and in `other` for the rest
+abbrev pub sameValue : ℤ → ℤ → Bool
+sameValue v w = leZ v w && leZ w v
+
+-- the number of the state in which a row lands for the value v: a receive lands in `to` for its own value, and in `other` for
+-- the rest
 abbrev pub target : Kind → ℕ → ℤ → ℕ
 target SilentRow to v = to
 target MovementRow to v = to
 target (BroadcastRow g w) to v = to
-target (ReceiveRow g w other) to v = cond (leZ v w && leZ w v) to other
+target (ReceiveRow g w other) to v = cond (sameValue v w) to other
 
 abbrev pub stepOf : Row → Step
 stepOf r = record { label = labelOf (r .kind); landing = λ v. stateAt (target (r .kind) (r .to) v) }

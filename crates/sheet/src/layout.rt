@@ -40,7 +40,11 @@ impl RowLayout {
                 Some(Kind::Broadcast { groups, value })
             }
             3 if self.may_carry(groups, value) => {
-                Some(Kind::Receive { groups, value, other })
+                Some(Kind::Receive {
+                    groups,
+                    value,
+                    other,
+                })
             }
             _ => None,
         }
@@ -72,9 +76,12 @@ pub(crate) impl Layout<Row> for RowLayout as RowLayoutLayout {
         let [from, code, set, value, to, other] = bytes else {
             return Err(BadRecord { number });
         };
-        let kind = self
-            .kind(*code, *set, *value, *to, *other)
+        let kind = self.kind(*code, *set, *value, *to, *other)
             .ok_or(BadRecord { number })?;
-        Ok(Row { from: *from, kind, to: *to })
+        Ok(Row {
+            from: *from,
+            kind,
+            to: *to,
+        })
     }
 }

@@ -2,7 +2,8 @@
 pub mod fault;
 mod layout;
 mod load;
-pub mod row;
+mod row;
 pub mod sheet;
+pub mod states;
 mod steps;
 pub mod system;

@@ -37,7 +37,12 @@ impl SheetFault {
             SheetFault::BadRow { number } => (9, number),
             SheetFault::Memory => return None,
         };
-        Some(Refusal { question, side: Side::Left, item, step: 0 })
+        Some(Refusal {
+            question,
+            side: Side::Left,
+            item,
+            step: 0,
+        })
     }
 }
 
@@ -53,6 +58,10 @@ impl Sheet {
         ensures makes { λ r. ⌜ made r (λ x. sheetMeaning x ≡ bytesMeaning (range .lo) (range .hi) channels (now (bytes .entry))) ⌝ }
     {
         let rows = tables::load(&RowLayout { range, channels }, heap, bytes)?;
-        Ok(Sheet { range, channels, rows })
+        Ok(Sheet {
+            range,
+            channels,
+            rows,
+        })
     }
 }

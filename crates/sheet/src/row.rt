@@ -7,8 +7,15 @@ use model::value::Value;
 pub enum Kind {
     Silent,
     Movement,
-    Broadcast { groups: GroupSet, value: Value },
-    Receive { groups: GroupSet, value: Value, other: u8 },
+    Broadcast {
+        groups: GroupSet,
+        value: Value,
+    },
+    Receive {
+        groups: GroupSet,
+        value: Value,
+        other: u8,
+    },
 }
 
 /// A row is a step from the state with the number `from` to the one with the number `to`.

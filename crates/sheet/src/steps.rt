@@ -4,10 +4,14 @@ ghost use lib.ListN.{length};
 ghost use Rattle.std.specs.Of.Vec.{vec-items};
 ghost use Rattle.std.specs.Vec.{made};
 ghost use Rattle.std.specs.shelf.Maps.{nth};
-ghost use Rattle.sheet.specs.Meaning.{zeros, sheetLawful, numberOf, stateAt, labelOf, target, stepOf, rowsFrom, waysOf, listedRow};
+ghost use Rattle.sheet.specs.States.{numberOf};
+ghost use Rattle.sheet.specs.Meaning.{target, stepOf, rowsFrom, waysOf, listedRow};
 use crate::row::Kind;
 use crate::row::Row;
 use crate::sheet::Sheet;
+use crate::states::is_lawful;
+use crate::states::number_of;
+use crate::states::state_at;
 use model::label::Label;
 use model::range::Range;
 use model::state::State;
@@ -15,33 +19,6 @@ use model::value::Value;
 use std::alloc::AllocError;
 use std::alloc::Global;
 use systems::listed::Listed;
-
-fn are_zeros(bytes: &[u8]) -> bool
-    ensures { λ r. ⌜ r ≡ zeros (now (bytes .entry)) ⌝ }
-{
-    for byte in bytes {
-        if *byte != 0 {
-            return false;
-        }
-    }
-    true
-}
-
-/// Any first byte, and then zeros.
-pub(crate) fn is_lawful(state: &State) -> bool
-    ensures { λ r. ⌜ r ≡ sheetLawful (now (state .entry)) ⌝ }
-{
-    are_zeros(&state.to_bytes()[1..])
-}
-
-/// The state with the number.
-fn state_at(number: u8) -> State
-    ensures { λ r. ⌜ r ≡ stateAt number ⌝ }
-{
-    let mut bytes = [0; 24];
-    bytes[0] = number;
-    State::from_bytes(bytes)
-}
 
 impl Row {
     pub(crate) fn label(&self) -> Label
@@ -51,7 +28,11 @@ impl Row {
             Kind::Silent => Label::Silent,
             Kind::Movement => Label::Movement,
             Kind::Broadcast { groups, value } => Label::Broadcast { groups, value },
-            Kind::Receive { groups, value: _, other: _ } => Label::Receive { groups },
+            Kind::Receive {
+                groups,
+                value: _,
+                other: _,
+            } => Label::Receive { groups },
         }
     }
 
@@ -60,7 +41,11 @@ impl Row {
         ensures { λ r. ⌜ r ≡ target (now (self .entry) .kind) (now (self .entry) .to) value ⌝ }
     {
         match self.kind {
-            Kind::Receive { groups: _, value: own, other } if value != own => other,
+            Kind::Receive {
+                groups: _,
+                value: own,
+                other,
+            } if value != own => other,
             _ => self.to,
         }
     }
@@ -80,7 +65,10 @@ impl Row {
         } else {
             None
         };
-        Listed { label: self.label(), landing }
+        Listed {
+            label: self.label(),
+            landing,
+        }
     }
 }
 
@@ -137,7 +125,7 @@ impl Sheet {
     pub(crate) fn count(&self, state: &State) -> u64
         ensures { λ r. ⌜ r ≡ length (rowsFrom (numberOf (now (state .entry))) (vec-items (now (self .entry) .rows))) ⌝ }
     {
-        count_from(&self.rows, state.units[0].location)
+        count_from(&self.rows, number_of(state))
     }
 
     /// The row that is the step of a state with the number `step`.
@@ -145,7 +133,7 @@ impl Sheet {
         ensures { λ r. ⌜ r ≡ nth (waysOf (vec-items (now (self .entry) .rows)) (now (state .entry))) step ⌝ }
     {
         if is_lawful(state) {
-            row_from(&self.rows, state.units[0].location, step)
+            row_from(&self.rows, number_of(state), step)
         } else {
             None
         }
@@ -160,6 +148,6 @@ impl Sheet {
     ) -> Result<Vec<Listed>, AllocError>
         ensures { λ r. ⌜ made r (λ v. vec-items v ≡ map (listedRow (now (self .entry) .range .lo) (now (self .entry) .range .hi) value) (rowsFrom (numberOf (now (state .entry))) (vec-items (now (self .entry) .rows)))) ⌝ }
     {
-        list_from(heap, &self.rows, state.units[0].location, &self.range, value)
+        list_from(heap, &self.rows, number_of(state), &self.range, value)
     }
 }

@@ -1,6 +1,6 @@
 ghost use Rattle.sheet.specs.Meaning.{sheetMeaning};
 use crate::sheet::Sheet;
-use crate::steps::is_lawful;
+use crate::states::is_lawful;
 use model::group_set::GroupSet;
 use model::label::Label;
 use model::range::Range;

@@ -82,5 +82,5 @@ module _ {W : Type 0} (f : W → Step) (ws : List W) where
   list-ways items r lo hi v u b same t m =
       let listed : ℤ → Step → Listed = λ z y. record { label = y .label; landing = given (inRange lo hi z) (y .landing z) } in
       let all : map (λ w. listed u (f w)) ws ≡ map (listed v) (map f (cond b ws [])) =
-          sym (map-map (listed u) f ws) ∙ ap (λ z. map (listed z) (map f ws)) same ∙ ap (λ c. map (listed v) (map f (cond c ws []))) t in
+      sym (map-map (listed u) f ws) ∙ ap (λ z. map (listed z) (map f ws)) same ∙ ap (λ c. map (listed v) (map f (cond c ws []))) t in
       made-weaker r _ _ (λ x h. h ∙ all) m
