@@ -7,3 +7,5 @@ pub mod sheet;
 pub mod states;
 mod steps;
 pub mod system;
+#[cfg(test)]
+mod tests;
