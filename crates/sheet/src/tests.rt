@@ -114,32 +114,39 @@ fn fault(heap: Global, bytes: &[u8]) -> Result<Option<SheetFault>, Fail> {
     }
 }
 
-/// Whether a row is taken.
-fn fits(heap: Global, row: [u8; 6]) -> Result<bool, Fail> {
-    match fault(heap, &row)? {
-        None => Ok(true),
-        Some(fault) => {
-            check_eq(fault, SheetFault::BadRow { number: 0 })?;
-            Ok(false)
-        }
-    }
-}
+const LAID_OUT: [[u8; 6]; 4] = [
+    [9, 0, 0, 0, 8, 8],
+    [9, 1, 0, 0, 255, 255],
+    [9, 2, 1, 2, 8, 8],
+    [9, 3, 1, 1, 8, 7],
+];
+
+/// A kind that is none; a set, a value or another target that the kind has not; a set outside the channel set and an empty
+/// one; a value below the range and one above it.
+const NOT_LAID_OUT: [[u8; 6]; 9] = [
+    [9, 4, 0, 0, 8, 8],
+    [9, 0, 1, 0, 8, 8],
+    [9, 1, 0, 1, 8, 8],
+    [9, 1, 0, 0, 8, 7],
+    [9, 2, 1, 1, 8, 7],
+    [9, 2, 3, 1, 8, 8],
+    [9, 2, 0, 1, 8, 8],
+    [9, 3, 1, 0, 8, 8],
+    [9, 3, 1, 3, 8, 8],
+];
 
 #[test]
 fn rows_as_laid_out(rt: LibcRuntime) -> Result<(), Fail> {
-    check(fits(rt.alloc(), [9, 0, 0, 0, 8, 8])?)?;
-    check(fits(rt.alloc(), [9, 1, 0, 0, 255, 255])?)?;
-    check(fits(rt.alloc(), [9, 2, 1, 2, 8, 8])?)?;
-    check(fits(rt.alloc(), [9, 3, 1, 1, 8, 7])?)?;
-    check(!fits(rt.alloc(), [9, 4, 0, 0, 8, 8])?)?;
-    check(!fits(rt.alloc(), [9, 0, 1, 0, 8, 8])?)?;
-    check(!fits(rt.alloc(), [9, 1, 0, 1, 8, 8])?)?;
-    check(!fits(rt.alloc(), [9, 1, 0, 0, 8, 7])?)?;
-    check(!fits(rt.alloc(), [9, 2, 3, 1, 8, 8])?)?;
-    check(!fits(rt.alloc(), [9, 2, 0, 1, 8, 8])?)?;
-    check(!fits(rt.alloc(), [9, 2, 1, 1, 8, 7])?)?;
-    check(!fits(rt.alloc(), [9, 3, 1, 0, 8, 8])?)?;
-    check(!fits(rt.alloc(), [9, 3, 1, 3, 8, 8])?)
+    for row in &LAID_OUT {
+        check_eq(fault(rt.alloc(), row)?, None)?;
+    }
+    for row in &NOT_LAID_OUT {
+        check_eq(
+            fault(rt.alloc(), row)?,
+            Some(SheetFault::BadRow { number: 0 }),
+        )?;
+    }
+    Ok(())
 }
 
 #[test]
