@@ -39,20 +39,14 @@ pub impl System for Sheet as SheetSystem {
     }
 
     fn label(&self, state: &State, step: u64) -> Option<Label> {
-        match self.row(state, step) {
-            Some(row) => Some(row.label()),
-            None => None,
-        }
+        Some(self.row(state, step)?.label())
     }
 
     fn landing(&self, state: &State, step: u64, value: Value) -> Option<State> {
         if !self.range.holds(value) {
             return None;
         }
-        match self.row(state, step) {
-            Some(row) => Some(row.landing(value)),
-            None => None,
-        }
+        Some(self.row(state, step)?.landing(value))
     }
 
     fn list(&self, heap: Global, state: &State, value: Value) -> Result<Vec<Listed>, AllocError> {

@@ -1,3 +1,4 @@
+use mathlib.Core.Path.{_∙_}
 use mir.Syntax.{w8}
 use Rattle.std.specs.Of.Vec.{vec-items}
 use Rattle.std.proofs.shelf.Signed.{toZ-ofZ}
@@ -5,14 +6,15 @@ use Rattle.systems.proofs.Ways.{landing-some-way, landing-no-way}
 use Rattle.sheet.specs.Meaning.{stepOf, waysOf}
 use Rattle.sheet.proofs.system.SheetSystem.landing.Needs as need
 
-pub returns-in-Some : need.returns-in-Some
-returns-in-Some c =
+pub returns : need.returns
+returns c =
     let ways = waysOf (vec-items (c .args .self .now .rows)) (c .args .state .now) in
     landing-some-way stepOf ways (c .args .step) (c .args .self .now .range .lo) (c .args .self .now .range .hi) (c .args .value) _ (toZ-ofZ w8 (c .args .value) (c .fits .value))
-    (c .holds .result) (c .holds .ensures) (c .in-Some .row) (c .landing .result) (c .if-not-holds .left) (c .in-Some .ensures tt) (c .landing .ensures)
+    (c .holds .result) (c .holds .ensures) (c .in-Continue-row .field-0) (c .landing .result) (c .if-not-holds .left) (c .in-Continue-row .ensures tt) (c .landing .ensures)
 
-pub returns-in-None : need.returns-in-None
-returns-in-None c =
+pub returns-in-Break-row : need.returns-in-Break-row
+returns-in-Break-row c =
     let ways = waysOf (vec-items (c .args .self .now .rows)) (c .args .state .now) in
-    landing-no-way stepOf ways (c .args .step) (c .args .self .now .range .lo) (c .args .self .now .range .hi) (c .args .value) _ (toZ-ofZ w8 (c .args .value) (c .fits .value))
-    (c .holds .result) (c .holds .ensures) (c .if-not-holds .left) (c .in-None .ensures tt)
+    c .from-residual .ensures
+    ∙ landing-no-way stepOf ways (c .args .step) (c .args .self .now .range .lo) (c .args .self .now .range .hi) (c .args .value) _ (toZ-ofZ w8 (c .args .value) (c .fits .value))
+    (c .holds .result) (c .holds .ensures) (c .if-not-holds .left) (c .in-Break-row .ensures tt)
