@@ -28,11 +28,7 @@ impl Row {
             Kind::Silent => Label::Silent,
             Kind::Movement => Label::Movement,
             Kind::Broadcast { groups, value } => Label::Broadcast { groups, value },
-            Kind::Receive {
-                groups,
-                value: _,
-                other: _,
-            } => Label::Receive { groups },
+            Kind::Receive { groups, .. } => Label::Receive { groups },
         }
     }
 
@@ -42,9 +38,9 @@ impl Row {
     {
         match self.kind {
             Kind::Receive {
-                groups: _,
                 value: own,
                 other,
+                ..
             } if value != own => other,
             _ => self.to,
         }
@@ -128,7 +124,7 @@ impl Sheet {
         count_from(&self.rows, number_of(state))
     }
 
-    /// The row that is the step of a state with the number `step`.
+    /// The row that is the step `step` of a state, or none where the state has no such step.
     pub(crate) fn row(&self, state: &State, step: u64) -> Option<Row>
         ensures { λ r. ⌜ r ≡ nth (waysOf (vec-items (now (self .entry) .rows)) (now (state .entry))) step ⌝ }
     {
