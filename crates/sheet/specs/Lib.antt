@@ -1,0 +1,4 @@
+pub mod Rows
+pub mod Loading
+pub mod States
+pub mod Meaning
