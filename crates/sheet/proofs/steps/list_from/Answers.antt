@@ -17,7 +17,7 @@ loop-row-again c =
     let hi = c .args .range .now .hi in
     let v = toZ w8 (ofZ w8 (c .args .value)) in
     elim (c .if-row-number .came) [
-      | then-row-number·in-Continue-push w ↦ ap vec-items (w .steps-is) ∙ list-row rows (c .args .number) (c .loop-row .row-index) _ (c .loop-row-test .taken) lo hi v v refl (vec-items (c .loop-row .steps)) (c .loop-row .inv) _ _ (w .if-row-number .taken) (w .listed .ensures) (w .in-Continue-push .ensures tt .items)
+      | then-row-number·in-Continue-push w ↦ ap vec-items (w .steps-is) ∙ list-row rows (c .args .number) (c .loop-row .row-index) _ (c .loop-row-test .taken) lo hi v v refl (vec-items (c .loop-row .steps)) (c .loop-row .inv) (vec-items (w .push .last .self)) (w .listed .result) (w .if-row-number .taken) (w .listed .ensures) (w .in-Continue-push .ensures tt .items)
       | else-row-number w ↦ ap vec-items (w .steps-is) ∙ list-no-row rows (c .args .number) (c .loop-row .row-index) _ (c .loop-row-test .taken) lo hi v v refl (vec-items (c .loop-row .steps)) (c .loop-row .inv) (w .if-row-number .left)
     ]
 
