@@ -1,14 +1,9 @@
 -- No question is answered no exactly where the relation is a bisimulation. Assumes nothing.
 use mathlib.Core.Path.{_≡_, refl, sym, ap, subst, _∙_}
-use mathlib.Core.Bool.{Bool, true, false}
-use mathlib.Core.List.{List, [], _∷_, _++_}
+use mathlib.Core.Bool.{true}
+use mathlib.Core.List.{_++_}
 use Prim.Native.Nat.{ℕ, _+_, _<_, _≤_}
-use native.Mathlib.Omega.{arith}
-use lib.Dec.{leb}
 use lib.ListN.{length, drop}
-use Rattle.std.specs.Orderings.{Decides}
-use Rattle.std.specs.Results.{isOk}
-use Rattle.std.specs.shelf.Maps.{nth}
 use Rattle.std.specs.declared.option.Option.{Option}
 use Rattle.std.specs.declared.option.Option.the-variants.{Some, None}
 use Rattle.std.specs.declared.result.Result.{Result}
@@ -16,18 +11,15 @@ use Rattle.std.specs.declared.result.Result.the-variants.{Ok, Err}
 use Rattle.std.proofs.shelf.Tests.{leb-true, le-leb}
 use Rattle.lists.specs.Words.{through, Stands}
 use Rattle.lists.proofs.Places.{nth-within, nth-here, some-none}
-use Rattle.questions.specs.Asking.{firstNo, numbered, restated, refusalOf}
+use Rattle.questions.specs.Asking.{firstNo, numbered, restated}
 use Rattle.questions.specs.declared.Refusal.{Refusal}
 use Rattle.questions.specs.declared.Side.{Side}
 use Rattle.questions.specs.declared.Side.the-variants.{Left, Right}
 use Rattle.questions.proofs.Asked.{head-none, head-yes, append-none, append-some, append-left, append-right, ask-yes, ask-none, ask-no, numbered-none, numbered-each, numbered-more, numbered-here, numbered-all, first-restated}
 use Rattle.model.specs.declared.state.Pair.{Pair}
-use Rattle.model.specs.Alike.{sameSet}
 use Rattle.model.proofs.Deciding.{decides-set}
-use Rattle.systems.specs.Meaning.{Step}
-use Rattle.judge.specs.Comparing.{Compared, OneRange, opposed, stepsOn}
+use Rattle.judge.specs.Comparing.{Compared, OneRange, stepsOn}
 use Rattle.judge.specs.Likeness.{Reply, Answered, Matched, Bisimulation}
-use Rattle.judge.specs.Replies.{sameRange, hasReply}
 use Rattle.judge.specs.Judged.{say, stepAsked, stepsAsked, pairAsked, judgeAsked, judgeRefusal, Judged}
 use Rattle.judge.specs.declared.fault.Fault.{Fault}
 use Rattle.judge.specs.declared.fault.Fault.the-variants.{Ranges, TooMany, LeftUnlawful, RightUnlawful, Shown, LeftStep, RightStep}
@@ -53,14 +45,14 @@ module _ (c : Compared) (one : OneRange c) (side : Side) (p : Pair) where
   pub step-unanswered : (i : ℕ) → i < length (stepsOn side c p) → firstNo (numbered (stepAsked c side p) i (drop i (stepsOn side c p))) ≡ firstNo (stepsAsked c side p) → ((j : ℕ) → Reply c side p i j → ⊥) → Some i ≡ firstNo (stepsAsked c side p)
   step-unanswered i h inv none =
       let x = nth-here (stepsOn side c p) i h in
-      let no′ = decides-no _ (decides-answered c side one p i (x .0) (x .1)) (λ a. none (a .0) (a .1)) in
-      sym (sym inv ∙ numbered-here (stepAsked c side p) (stepsOn side c p) i (x .0) i (x .1) (ask-no _ _ no′))
+      let unmet = decides-no _ (decides-answered c side one p i (x .0) (x .1)) (λ a. none (a .0) (a .1)) in
+      sym (sym inv ∙ numbered-here (stepAsked c side p) (stepsOn side c p) i (x .0) i (x .1) (ask-no _ _ unmet))
 
   pub step-answered : (i j : ℕ) → i < length (stepsOn side c p) → firstNo (numbered (stepAsked c side p) i (drop i (stepsOn side c p))) ≡ firstNo (stepsAsked c side p) → Reply c side p i j → firstNo (numbered (stepAsked c side p) (i + 1) (drop (i + 1) (stepsOn side c p))) ≡ firstNo (stepsAsked c side p)
   step-answered i j h inv r =
       let x = nth-here (stepsOn side c p) i h in
-      let yes′ = decides-answered c side one p i (x .0) (x .1) .1 (j, r) in
-      sym (numbered-more (stepAsked c side p) (stepsOn side c p) i (x .0) (x .1) (ask-none _ _ yes′)) ∙ inv
+      let met = decides-answered c side one p i (x .0) (x .1) .1 (j, r) in
+      sym (numbered-more (stepAsked c side p) (stepsOn side c p) i (x .0) (x .1) (ask-none _ _ met)) ∙ inv
 
   pub steps-done : (i : ℕ) → length (stepsOn side c p) ≤ i → firstNo (numbered (stepAsked c side p) i (drop i (stepsOn side c p))) ≡ firstNo (stepsAsked c side p) → None ≡ firstNo (stepsAsked c side p)
   steps-done i h inv = sym (sym inv ∙ numbered-all (stepAsked c side p) (stepsOn side c p) i h)
@@ -119,14 +111,14 @@ refusal-some (LeftStep k i) = (_, refl)
 refusal-some (RightStep k i) = (_, refl)
 
 module _ (c : Compared) where
-  none-bisimulation : firstNo (judgeAsked c) ≡ None → Bisimulation c
+  pub none-bisimulation : firstNo (judgeAsked c) ≡ None → Bisimulation c
   none-bisimulation e =
       let a = head-none _ _ _ e in
       let b = head-none _ _ _ (a .1) in
       let one = decides-range c .0 (a .0) in
       record { one-range = one; few = leb-true _ _ (b .0); each = λ k p at. pair-matched c one (0 + k) p (numbered-each (pairAsked c) 0 (c .relation) (b .1) k p at) }
 
-  bisimulation-none : Bisimulation c → firstNo (judgeAsked c) ≡ None
+  pub bisimulation-none : Bisimulation c → firstNo (judgeAsked c) ≡ None
   bisimulation-none b =
       head-yes _ _ _ (decides-range c .1 (b .one-range)) (head-yes _ _ _ (le-leb _ _ (b .few))
       (numbered-none (pairAsked c) 0 (c .relation) (λ k p at. matched-pair c (b .one-range) (0 + k) p (b .each k p at))))

@@ -1,14 +1,14 @@
 -- What landings tell of replies. Assumes nothing.
 use mathlib.Core.Path.{_≡_, refl, sym, ap, subst, _∙_}
 use mathlib.Core.Bool.{Bool, true, false, cond}
-use mathlib.Core.List.{List}
 use Prim.Native.Nat.{ℕ, _<_}
+use native.Mathlib.Omega.{arith}
 use lib.IntN.{ℤ}
 use lib.ListN.{length}
 use Rattle.std.specs.Orderings.{Decides}
 use Rattle.std.specs.shelf.Maps.{nth}
-use Rattle.std.specs.declared.option.Option.{Option}
 use Rattle.std.specs.declared.option.Option.the-variants.{Some, None}
+use Rattle.std.proofs.shelf.Signed.{ints}
 use Rattle.std.proofs.shelf.Ways.{decides-like}
 use Rattle.lists.specs.Words.{through, Stands}
 use Rattle.lists.proofs.Places.{some-same, nth-within}
@@ -23,9 +23,8 @@ use Rattle.systems.proofs.Facts.{label-some}
 use Rattle.judge.specs.Comparing.{Compared, OneRange, opposed, pairFrom, systemOn, stateOn, stepsOn, labelOn, landingOn}
 use Rattle.judge.specs.Likeness.{Holds, LandsAt, Lands, Reply}
 use Rattle.judge.proofs.Values.{in-range}
-use native.Mathlib.Omega.{arith}
-use Rattle.std.proofs.shelf.Signed.{ints}
 
+-- a step of the list lands at every value in range
 landing-there : (m : Meaning) (s : State) (i : ℕ) (v : ℤ) (x : Step) → Stands (m .steps s) x i → inRangeOf m v ≡ true → landingAt m s i v ≡ Some (x .landing v)
 landing-there m s i v x at within =
     ap (λ b. cond b (through (λ y. y .landing v) (nth (m .steps s) i)) None) within ∙ ap (through (λ y. y .landing v)) at
@@ -56,11 +55,11 @@ module _ (c : Compared) (one : OneRange c) where
     decides-each b d = decides-like b (λ all v within. landed v within (all v within)) (λ all v within. lands-at v within (all v within)) d
 
     -- steps that land alike at every value: one value tells of all
-    module _ (keeps-own : Keeps (systemOn side c)) (keeps-other : Keeps (systemOn (opposed side) c)) (silent : receives (x .label) ≡ false) (same : x .label ≡ y .label) where
+    module _ (keeps-own : Keeps (systemOn side c)) (keeps-other : Keeps (systemOn (opposed side) c)) (quiet : receives (x .label) ≡ false) (same : x .label ≡ y .label) where
       same-landings : (v w : ℤ) → inRangeOf (c .left) v ≡ true → inRangeOf (c .left) w ≡ true → pairFrom side (x .landing v) (y .landing v) ≡ pairFrom side (x .landing w) (y .landing w)
       same-landings v w hv hw =
-          ap (λ s. pairFrom side s (y .landing v)) (keeps-own .steady (stateOn side p) i x x-at silent v w (sym (range-on side v) ∙ hv) (sym (range-on side w) ∙ hw))
-          ∙ ap (λ s. pairFrom side (x .landing w) s) (keeps-other .steady (stateOn (opposed side) p) j y y-at (ap receives (sym same) ∙ silent) v w (sym (range-on (opposed side) v) ∙ hv) (sym (range-on (opposed side) w) ∙ hw))
+          ap (λ s. pairFrom side s (y .landing v)) (keeps-own .steady (stateOn side p) i x x-at quiet v w (sym (range-on side v) ∙ hv) (sym (range-on side w) ∙ hw))
+          ∙ ap (λ s. pairFrom side (x .landing w) s) (keeps-other .steady (stateOn (opposed side) p) j y y-at (ap receives (sym same) ∙ quiet) v w (sym (range-on (opposed side) v) ∙ hv) (sym (range-on (opposed side) w) ∙ hw))
 
       decides-one : (b : Bool) (u : ℤ) → inRangeOf (c .left) u ≡ true → Decides b (LandsAt c side p i j u) → Decides b (Lands c side x y)
       decides-one b u within d =

@@ -1,7 +1,7 @@
 -- The tests of replies decide the relations. Assumes nothing.
 use mathlib.Core.Path.{_≡_, refl, sym, ap, subst, _∙_}
-use mathlib.Core.Bool.{Bool, true, false, cond, _&&_, _||_}
-use mathlib.Core.Logic.{_⊎_, inl, inr, ⊎-elim}
+use mathlib.Core.Bool.{Bool, true, false, cond, _||_}
+use mathlib.Core.Logic.{_⊎_, ⊎-elim}
 use mathlib.Core.List.{List, [], _∷_}
 use Prim.Native.Nat.{ℕ, zero, suc, _<_}
 use native.Mathlib.Omega.{arith}
@@ -9,7 +9,7 @@ use lib.IntN.{ℤ, pos, natAbs, _-ℤ_, _+ℤ_}
 use lib.Signed.{_≤ℤ_, _<ℤ_, leZ}
 use Rattle.std.specs.Orderings.{Decides}
 use Rattle.std.specs.shelf.Maps.{nth}
-use Rattle.std.specs.declared.option.Option.the-variants.{Some, None}
+use Rattle.std.specs.declared.option.Option.the-variants.{Some}
 use Rattle.std.proofs.shelf.Signed.{ints, by-ltZ}
 use Rattle.std.proofs.shelf.Ways.{decides-and, decides-like}
 use Rattle.std.proofs.shelf.Tests.{and-parts, and-from, or-cases, or-left, or-right}
@@ -17,11 +17,11 @@ use Rattle.lists.specs.Words.{Stands}
 use Rattle.lists.proofs.Places.{some-same, some-none}
 use Rattle.questions.specs.declared.Side.{Side}
 use Rattle.model.specs.declared.state.Pair.{Pair}
-use Rattle.model.specs.Alike.{samePair, sameLabel, sameValue}
+use Rattle.model.specs.Alike.{samePair}
 use Rattle.model.proofs.Deciding.{decides-pair, decides-label, decides-value, leZ-le, le-leZ}
 use Rattle.systems.specs.Meaning.{Meaning, Step, inRangeOf}
 use Rattle.judge.specs.Comparing.{Compared, OneRange, opposed, pairFrom, stepsOn}
-use Rattle.judge.specs.Likeness.{Holds, Lands, Reply, Answered}
+use Rattle.judge.specs.Likeness.{Holds, Lands, Answered}
 use Rattle.judge.specs.Replies.{sameRange, holds, yesFrom, yesOfEach, replies, hasReply}
 use Rattle.judge.proofs.Values.{clash, in-range, range-low, range-high}
 

@@ -17,14 +17,6 @@ use Rattle.judge.specs.Comparing.{Compared, OneRange, opposed, pairFrom, steps
 abbrev pub Holds : List Pair → Pair → Type 0
 Holds rel p = (k : ℕ) × Stands rel p k
 
--- both steps land at the value v, and their landings form a record of the relation
-pub record LandsAt (c : Compared) (side : Side) (p : Pair) (i j : ℕ) (v : ℤ) : Type 0 where
-  pub own : State
-  pub other : State
-  pub own-at : landingOn side c p i v ≡ Some own
-  pub other-at : landingOn (opposed side) c p j v ≡ Some other
-  pub held : Holds (c .relation) (pairFrom side own other)
-
 -- for every value in range the landings of the two steps, of which x is on the side, form a record of the relation
 abbrev pub Lands : Compared → Side → Step → Step → Type 0
 Lands c side x y = (v : ℤ) → inRangeOf (c .left) v ≡ true → Holds (c .relation) (pairFrom side (x .landing v) (y .landing v))
@@ -56,3 +48,11 @@ pub record Bisimulation (c : Compared) : Type 0 where
   pub one-range : OneRange c
   pub few : length (c .relation) ≤ 4096
   pub each : (k : ℕ) (p : Pair) → Stands (c .relation) p k → Matched c p
+
+-- by step number: the steps i and j both land at the value v, and their landings form a record of the relation
+pub record LandsAt (c : Compared) (side : Side) (p : Pair) (i j : ℕ) (v : ℤ) : Type 0 where
+  pub own : State
+  pub other : State
+  pub own-at : landingOn side c p i v ≡ Some own
+  pub other-at : landingOn (opposed side) c p j v ≡ Some other
+  pub held : Holds (c .relation) (pairFrom side own other)

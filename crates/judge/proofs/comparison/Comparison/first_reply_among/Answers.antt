@@ -1,7 +1,5 @@
-use mathlib.Core.Path.{refl}
 use Prim.Native.Nat.{_<_}
 use native.Mathlib.Omega.{arith}
-use Rattle.questions.specs.declared.Side.{Side}
 use Rattle.judge.specs.Comparing.{meant}
 use Rattle.judge.proofs.Replying.{reply-within}
 use Rattle.judge.proofs.comparison.Comparison.first_reply_among.Needs as need

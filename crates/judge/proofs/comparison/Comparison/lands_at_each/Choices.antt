@@ -1,4 +1,3 @@
-use Prim.Native.Nat.{ℕ}
 use lib.IntN.{ℤ}
 use lib.Signed.{_≤ℤ_, _<ℤ_}
 use Rattle.judge.specs.Comparing.{meant}
