@@ -6,3 +6,4 @@ pub mod Members
 pub mod Ordered
 pub mod Adding
 pub mod Gathered
+pub mod Mapped

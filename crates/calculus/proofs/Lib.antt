@@ -1,0 +1,4 @@
+pub mod Derived
+pub mod Composed
+pub mod Ascending
+pub mod Exactly

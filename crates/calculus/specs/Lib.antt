@@ -1,0 +1,2 @@
+pub mod Calculus
+pub mod Exactness
