@@ -95,9 +95,10 @@ rising-map f (k ∷ ks) h = (h k, rising-map f ks h)
 
 module _ (t : Net) (s : State) where
   sorted-choices : (u j : ℕ) → Sorted ChoiceBefore (choices t s u j)
-  sorted-choices u j =
-      (all-when (ChoiceBefore Stay) (listener t s u j) (map Take (receivableRows t s j)) (takes (receivableRows t s j)),
-      sorted-when ChoiceBefore (listener t s u j) (map Take (receivableRows t s j)) (sorted-map _<_ ChoiceBefore Take (receivableRows t s j) (λ x y h. h) (sorted-kept _<_ (receivableAt t s j) (counting 0 (length (t .rows))) (sorted-counting 0 (length (t .rows))))))
+  sorted-choices u j = (
+    all-when (ChoiceBefore Stay) (listener t s u j) (map Take (receivableRows t s j)) (takes (receivableRows t s j)),
+    sorted-when ChoiceBefore (listener t s u j) (map Take (receivableRows t s j)) (sorted-map _<_ ChoiceBefore Take (receivableRows t s j) (λ x y h. h) (sorted-kept _<_ (receivableAt t s j) (counting 0 (length (t .rows))) (sorted-counting 0 (length (t .rows))))),
+  )
 
   sorted-combinations : (u : ℕ) (a : Action) → Sorted (Lexicographic ChoiceBefore) (combinations t s u a)
   sorted-combinations u Silent = (tt, tt)
@@ -145,5 +146,5 @@ module _ (t : Net) (s : State) where
     ascending =
         sorted-append Earlier (movements t allowed s) (acts t s) sorted-moves sorted-acts
         (all-cross AnyMove AnyAct Earlier (movements t allowed s) (acts t s) kinds-apart
-          (all-joined AnyMove (movementsOf t allowed s) 0 (t .units) (t .units) (omega arith) (λ u _. all-moves AnyMove u (λ g. tt)))
-          (all-joined AnyAct (actsOf t s) 0 (t .units) (t .units) (omega arith) (λ u _. all-acts AnyAct u (λ k hs. tt))))
+        (all-joined AnyMove (movementsOf t allowed s) 0 (t .units) (t .units) (omega arith) (λ u _. all-moves AnyMove u (λ g. tt)))
+        (all-joined AnyAct (actsOf t s) 0 (t .units) (t .units) (omega arith) (λ u _. all-acts AnyAct u (λ k hs. tt))))

@@ -39,9 +39,13 @@ land-stays t v (x ∷ xs) = ap (λ ys. x ∷ ys) (land-stays t v xs)
 pub alone-from : (t : Net) (α : NodeAction) (k : ℕ) (x₀ : UnitState) (f : ℤ → UnitState) → NoOutput α → k < length (t .rows) → Node x₀ (rowAt t k) α f → ((v : ℤ) → f v ≡ taken x₀ (rowAt t k) v) → (j u : ℕ) (xs : List UnitState) → j + u < t .units → nth xs u ≡ Some x₀ → (g : ℤ → List UnitState) × (Parallel t j xs α u k (stays xs) g × ((v : ℤ) → g v ≡ landlist t v xs (set (stays xs) u (Take k))))
 alone-from t α k x₀ f q l n e j u [] h s = absurd (let z : _≡_ {A = ℕ} 0 1 = cc in omega arith)
 alone-from t α k x₀ f q l n e j zero (x ∷ xs) h s =
-    let same : x₀ ≡ x = cc in
-    ((λ v. f v ∷ xs), (ALONE k (rowAt t k) (omega arith) (the-row t k l) (subst (λ y. Node y (rowAt t k) α f) same n) q,
-    λ v. ap (λ y. y ∷ xs) (e v ∙ ap (λ y. taken y (rowAt t k) v) same) ∙ ap (λ ys. taken x (rowAt t k) v ∷ ys) (sym (land-stays t v xs))))
+    let same : x₀ ≡ x = cc in (
+      (λ v. f v ∷ xs),
+      (
+        ALONE k (rowAt t k) (omega arith) (the-row t k l) (subst (λ y. Node y (rowAt t k) α f) same n) q,
+        λ v. ap (λ y. y ∷ xs) (e v ∙ ap (λ y. taken y (rowAt t k) v) same) ∙ ap (λ ys. taken x (rowAt t k) v ∷ ys) (sym (land-stays t v xs)),
+      ),
+    )
 alone-from t α k x₀ f q l n e j (suc u) (x ∷ xs) h s =
     let b = alone-from t α k x₀ f q l n e (suc j) u xs (omega arith) s in
     ((λ v. x ∷ b .0 v), (PAR (b .1 .0), λ v. ap (λ ys. x ∷ ys) (b .1 .1 v)))
@@ -103,10 +107,13 @@ module _ (t : Net) (k : ℕ) (o : Operand) (x₀ : UnitState) (l : k < length (t
     where
       step : x₀ ≡ x → (c : Choice) (ks : List Choice) → Beside t (x₀ .groups) (reads x₀ o) (suc j) xs ks (landlist t (reads x₀ o) xs ks) → (c ≡ Stay) ⊎ ((r : ℕ) × ((c ≡ Take r) × Listens t (x₀ .groups) U j x r)) → Sends t x₀ o k j zero (x ∷ xs) (c ∷ ks)
       step same c ks below (inl z) =
-          subst (λ b. Sends t x₀ o k j zero (x ∷ xs) (b ∷ ks)) (sym z)
-          ((λ v. advanced x (rowAt t k) ∷ landlist t (reads x₀ o) xs ks),
-          (SEND k (rowAt t k) (omega arith) (the-row t k l) (subst (λ y. Node x (rowAt t k) (out (y .groups) (reads y o)) (λ v. advanced x (rowAt t k))) (sym same) (MCAST o (subst (λ y. enabled y (rowAt t k) ≡ true) same e) a)) below,
-          λ v. ap (λ y. y ∷ landlist t (reads x₀ o) xs ks) (sent-lands x (rowAt t k) o (reads x₀ o) a)))
+          subst (λ b. Sends t x₀ o k j zero (x ∷ xs) (b ∷ ks)) (sym z) (
+            (λ v. advanced x (rowAt t k) ∷ landlist t (reads x₀ o) xs ks),
+            (
+              SEND k (rowAt t k) (omega arith) (the-row t k l) (subst (λ y. Node x (rowAt t k) (out (y .groups) (reads y o)) (λ v. advanced x (rowAt t k))) (sym same) (MCAST o (subst (λ y. enabled y (rowAt t k) ≡ true) same e) a)) below,
+              λ v. ap (λ y. y ∷ landlist t (reads x₀ o) xs ks) (sent-lands x (rowAt t k) o (reads x₀ o) a),
+            ),
+          )
       step same c ks below (inr q) = absurd (q .1 .1 .other (omega arith))
   cast-from j (suc u) (x ∷ xs) hs i s m =
       let p = product-in (opts t (x₀ .groups) U j x) (optlist t (x₀ .groups) U (suc j) xs) m in
@@ -118,10 +125,13 @@ module _ (t : Net) (k : ℕ) (o : Operand) (x₀ : UnitState) (l : k < length (t
           subst (λ b. Sends t x₀ o k j (suc u) (x ∷ xs) (b ∷ ks)) (sym z) ((λ v. x ∷ below .0 v), (PAR (below .1 .0), λ v. ap (λ ys. x ∷ ys) (below .1 .1 v)))
       step c ks below (inr q) =
           let r = recv x (rowAt t (q .0)) (q .1 .1 .may) in
-          subst (λ b. Sends t x₀ o k j (suc u) (x ∷ xs) (b ∷ ks)) (sym (q .1 .0))
-          ((λ v. r .0 (reads x₀ o) ∷ below .0 v),
-          (COM (q .0) (rowAt t (q .0)) (q .1 .1 .unit) (the-row t (q .0) (q .1 .1 .row)) (r .1 .0) (q .1 .1 .shares) (below .1 .0),
-          λ v. ap (λ y. y ∷ below .0 v) (r .1 .1 (reads x₀ o)) ∙ ap (λ ys. taken x (rowAt t (q .0)) (reads x₀ o) ∷ ys) (below .1 .1 v)))
+          subst (λ b. Sends t x₀ o k j (suc u) (x ∷ xs) (b ∷ ks)) (sym (q .1 .0)) (
+            (λ v. r .0 (reads x₀ o) ∷ below .0 v),
+            (
+              COM (q .0) (rowAt t (q .0)) (q .1 .1 .unit) (the-row t (q .0) (q .1 .1 .row)) (r .1 .0) (q .1 .1 .shares) (below .1 .0),
+              λ v. ap (λ y. y ∷ below .0 v) (r .1 .1 (reads x₀ o)) ∙ ap (λ ys. taken x (rowAt t (q .0)) (reads x₀ o) ∷ ys) (below .1 .1 v),
+            ),
+          )
 
 pub record Sent (t : Net) (j : ℕ) (xs : List UnitState) (G : GroupSet) (w : ℤ) (u k : ℕ) (hs : List Choice) (g : ℤ → List UnitState) : Type 0 where
   pub who : UnitState
@@ -159,7 +169,7 @@ cast-more t j x xs G w u k hs g h y m e b =
 
 pub cast-to : {t : Net} {j : ℕ} {xs : List UnitState} {G : GroupSet} {w : ℤ} {u k : ℕ} {hs : List Choice} {g : ℤ → List UnitState} → Parallel t j xs (out G w) u k hs g → Sent t j xs G w u k hs g
 cast-to (ALONE k r h e n q) = absurd q
-cast-to {t} (SEND {j = j} {x = x} {xs = xs} {G = G} {w = w} {hs = hs} {ys = ys} {f = f} k r h e n d) =
+cast-to {t} (SEND {j = j} {x = x} {xs = xs} {G = G} {w = w} {cs = hs} {ys = ys} {f = f} k r h e n d) =
     let y = some-row idle (t .rows) k r e in
     let i = mcast-inv n in
     let b = beside-to d (j + 0) (omega arith) in
@@ -177,8 +187,8 @@ cast-to {t} (SEND {j = j} {x = x} {xs = xs} {G = G} {w = w} {hs = hs} {ys = ys} 
       chosen = in-product (opts t G (j + 0) j x) (optlist t G (j + 0) (suc j) xs) (head refl) (b .0);
       lands = λ v. ap (λ z. z ∷ ys) (i .1 .1 .1 .1 .1 v ∙ ap (advanced x) (y .1) ∙ sent-lands x (rowAt t k) (i .0) w act) ∙ ap (λ zs. taken x (rowAt t k) w ∷ zs) (b .1);
     }
-cast-to {t} (PAR {j = j} {x = x} {xs = xs} {u = u} {k = k} {hs = hs} d) = cast-more t j x xs _ _ u k hs _ Stay x (head refl) refl (cast-to d)
-cast-to {t} (COM {j = j} {x = x} {xs = xs} {G = G} {w = w} {u = u} {k = k} {hs = hs} {f = f} {g = g} k′ r h e n c d) =
+cast-to {t} (PAR {j = j} {x = x} {xs = xs} {u = u} {k = k} {cs = hs} d) = cast-more t j x xs _ _ u k hs _ Stay x (head refl) refl (cast-to d)
+cast-to {t} (COM {j = j} {x = x} {xs = xs} {G = G} {w = w} {u = u} {k = k} {cs = hs} {f = f} {g = g} k′ r h e n c d) =
     let i = recv-inv n in
     let y = some-row idle (t .rows) k′ r e in
     cast-more t j x xs G w u k hs f (Take k′) (g w)

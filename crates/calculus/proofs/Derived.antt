@@ -67,7 +67,7 @@ pub recv : (x : UnitState) (r : Row) → receivable x r ≡ true → (f : ℤ �
 recv x r e =
     let b = and-parts (enabled x r) (isReceive (r .action)) e in
     let p = receive-of (r .action) (b .1) in
-    ((λ v. advanced (filled x (Hear (p .0)) v) r), (RECV (p .0) (b .0) (p .1), λ v. ap (λ a. advanced (filled x a v) r) (sym (p .1))))
+    ((λ v. advanced (filled x (Fill (p .0)) v) r), (RECV (p .0) (b .0) (p .1), λ v. ap (λ a. advanced (filled x a v) r) (sym (p .1))))
 
 pub recv-inv : {x : UnitState} {r : Row} {G : GroupSet} {f : ℤ → UnitState} → Node x r (inp G) f → (G ≡ x .groups) × ((receivable x r ≡ true) × ((v : ℤ) → f v ≡ taken x r v))
 recv-inv {x} {r} (RECV p e a) = (refl, (and-from (enabled x r) (isReceive (r .action)) e (ap isReceive a), λ v. ap (λ b. advanced (filled x b v) r) (sym a)))
@@ -93,20 +93,26 @@ opts-in t G U j x h m = step (in-cases m)
         let q = in-mapped Take (kept-by (λ k. receivable x (rowAt t k)) (counting 0 (length (t .rows)))) (w .1) in
         let p = kept-in (λ k. receivable x (rowAt t k)) (counting 0 (length (t .rows))) (q .1 .0) in
         let c = counting-in 0 (length (t .rows)) (q .0) (p .0) in
-        inr (q .0, (q .1 .1, record {
-          unit = ltb-true j (t .units) (b .0);
-          other = eqb-false j U (not-true (eqb j U) (d .0));
-          shares = d .1;
-          row = omega arith;
-          may = p .1;
-        }))
+        inr (
+          q .0,
+          (
+            q .1 .1,
+            record {
+              unit = ltb-true j (t .units) (b .0);
+              other = eqb-false j U (not-true (eqb j U) (d .0));
+              shares = d .1;
+              row = omega arith;
+              may = p .1;
+            },
+          ),
+        )
 
 pub in-opts : (t : Net) (G : GroupSet) (U j : ℕ) (x : UnitState) (k : ℕ) → Listens t G U j x k → In (Take k) (opts t G U j x)
 in-opts t G U j x k h =
     tail (in-when (ltb j (t .units) && (not (eqb j U) && linked G (x .groups)))
-      (and-from (ltb j (t .units)) (not (eqb j U) && linked G (x .groups)) (lt-ltb j (t .units) (h .unit))
-        (and-from (not (eqb j U)) (linked G (x .groups)) (not-from-false (eqb j U) (ne-eqb j U (h .other))) (h .shares)))
-      (in-map Take (in-kept (λ k. receivable x (rowAt t k)) (counting 0 (length (t .rows))) (in-counting 0 (length (t .rows)) k (omega arith) (omega (arith, h .row))) (h .may))))
+    (and-from (ltb j (t .units)) (not (eqb j U) && linked G (x .groups)) (lt-ltb j (t .units) (h .unit))
+    (and-from (not (eqb j U)) (linked G (x .groups)) (not-from-false (eqb j U) (ne-eqb j U (h .other))) (h .shares)))
+    (in-map Take (in-kept (λ k. receivable x (rowAt t k)) (counting 0 (length (t .rows))) (in-counting 0 (length (t .rows)) k (omega arith) (omega (arith, h .row))) (h .may))))
 
 -- those beside a sender
 
@@ -137,9 +143,10 @@ beside-to NIL U l = (head refl, refl)
 beside-to {t} {G} {v} (PAR {j = j} {x = x} {xs = xs} d) U l =
     let b = beside-to d U (omega arith) in
     (in-product (opts t G U j x) (optlist t G U (suc j) xs) (head refl) (b .0), ap (λ ys. x ∷ ys) (b .1))
-beside-to {t} {G} {v} (COM {j = j} {x = x} {xs = xs} {hs = hs} {ys = ys} {f = f} k r u e n c d) U l =
+beside-to {t} {G} {v} (COM {j = j} {x = x} {xs = xs} {cs = hs} {ys = ys} {f = f} k r u e n c d) U l =
     let b = beside-to d U (omega arith) in
     let i = recv-inv n in
-    let w = some-row idle (t .rows) k r e in
-    (in-product (opts t G U j x) (optlist t G U (suc j) xs) (in-opts t G U j x k (record { unit = u; other = λ q. omega arith; shares = ap (linked G) (sym (i .0)) ∙ c; row = w .0; may = subst (λ a. receivable x a ≡ true) (w .1) (i .1 .0) })) (b .0),
-    ap (λ y. y ∷ ys) (i .1 .1 v ∙ ap (λ a. taken x a v) (w .1)) ∙ ap (λ zs. taken x (rowAt t k) v ∷ zs) (b .1))
+    let w = some-row idle (t .rows) k r e in (
+      in-product (opts t G U j x) (optlist t G U (suc j) xs) (in-opts t G U j x k (record { unit = u; other = λ q. omega arith; shares = ap (linked G) (sym (i .0)) ∙ c; row = w .0; may = subst (λ a. receivable x a ≡ true) (w .1) (i .1 .0) })) (b .0),
+      ap (λ y. y ∷ ys) (i .1 .1 v ∙ ap (λ a. taken x a v) (w .1)) ∙ ap (λ zs. taken x (rowAt t k) v ∷ zs) (b .1),
+    )

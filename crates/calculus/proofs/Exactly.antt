@@ -158,9 +158,13 @@ module _ (t : Net) (allowed : List GroupSet → Bool) (s : State) (most : t .uni
     quiet : (α : NodeAction) (f : ℤ → UnitState) → NoOutput α → hs ≡ allStay → Node (unitAt s u) (rowAt t k) α f → ((v : ℤ) → f v ≡ taken (unitAt s u) (rowAt t k) v) → (g : ℤ → List UnitState) × (Parallel t 0 (s .units) α u k hs g × ((v : ℤ) → g v ≡ map (slotAfter t s u k hs v) (counting 0 6)))
     quiet α f q z n y =
         let same : stays (s .units) ≡ hs = six-stays (s .units) six ∙ sym z in
-        let b = alone-from t α k (unitAt s u) f q l n y 0 u (s .units) (omega arith) here in
-        (b .0, (subst (λ c. Parallel t 0 (s .units) α u k c (b .0)) same (b .1 .0),
-        λ v. b .1 .1 v ∙ ap (λ c. landlist t v (s .units) (set c u (Take k))) same ∙ six-lands t s u k hs v six (ap length z)))
+        let b = alone-from t α k (unitAt s u) f q l n y 0 u (s .units) (omega arith) here in (
+          b .0,
+          (
+            subst (λ c. Parallel t 0 (s .units) α u k c (b .0)) same (b .1 .0),
+            λ v. b .1 .1 v ∙ ap (λ c. landlist t v (s .units) (set c u (Take k))) same ∙ six-lands t s u k hs v six (ap length z),
+          ),
+        )
 
     act-from : (a : Action) → rowAt t k .action ≡ a → In hs (combinations t s u a) → Made (Act u k hs) (actLabel (freePart t (unitAt s u)) (unitAt s u) a)
     act-from Silent q m =
@@ -189,9 +193,14 @@ module _ (t : Net) (allowed : List GroupSet → Bool) (s : State) (most : t .uni
   move-from : (u : ℕ) (g : GroupSet) → u < t .units → g .bits < 256 → mayMove t allowed s u g ≡ true → Made (Move u g) Movement
   move-from u g h l e =
       let b = and-parts (not (eqb (g .bits) (unitAt s u .groups .bits))) (eqb (part (t .free) g .bits) (freePart t (unitAt s u) .bits) && allowed (placed t (moved s u g))) e in
-      let c = and-parts (eqb (part (t .free) g .bits) (freePart t (unitAt s u) .bits)) (allowed (placed t (moved s u g))) (b .1) in
-      ((λ v. moved s u g), (MOBILITY u g h l (eqb-false (g .bits) (unitAt s u .groups .bits) (not-true (eqb (g .bits) (unitAt s u .groups .bits)) (b .0)))
-        (same-set (part (t .free) g) (freePart t (unitAt s u)) (eqb-true (part (t .free) g .bits) (freePart t (unitAt s u) .bits) (c .0))) (c .1), λ v. refl))
+      let c = and-parts (eqb (part (t .free) g .bits) (freePart t (unitAt s u) .bits)) (allowed (placed t (moved s u g))) (b .1) in (
+        (λ v. moved s u g),
+        (
+          MOBILITY u g h l (eqb-false (g .bits) (unitAt s u .groups .bits) (not-true (eqb (g .bits) (unitAt s u .groups .bits)) (b .0)))
+              (same-set (part (t .free) g) (freePart t (unitAt s u)) (eqb-true (part (t .free) g .bits) (freePart t (unitAt s u) .bits) (c .0))) (c .1),
+          λ v. refl,
+        ),
+      )
 
   derived : (w : Way) → In w (ways t allowed s) → Made w (labelOf t s w)
   derived w m = step (in-either (movements t allowed s) m)
@@ -222,8 +231,8 @@ module _ (t : Net) (allowed : List GroupSet → Bool) (s : State) (most : t .uni
   in-acts u k hs h l e m =
       in-right (movements t allowed s)
       (in-joined (actsOf t s) (counting 0 (t .units)) (in-counting 0 (t .units) u (omega arith) (omega arith))
-        (in-joined (actsBy t s u) (counting 0 (length (t .rows))) (in-counting 0 (length (t .rows)) k (omega arith) (omega arith))
-          (in-when (enabled (unitAt s u) (rowAt t k)) e (in-map (Act u k) m))))
+      (in-joined (actsBy t s u) (counting 0 (length (t .rows))) (in-counting 0 (length (t .rows)) k (omega arith) (omega arith))
+      (in-when (enabled (unitAt s u) (rowAt t k)) e (in-map (Act u k) m))))
 
   tau-inv : {x : UnitState} {r : Row} {f : ℤ → UnitState} → Node x r tau f → (enabled x r ≡ true) × ((r .action ≡ Silent) × ((v : ℤ) → f v ≡ taken x r v))
   tau-inv {x} {r} (TAU e a) = (e, (a, λ v. ap (λ b. advanced (filled x b v) r) (sym a)))
@@ -237,10 +246,13 @@ module _ (t : Net) (allowed : List GroupSet → Bool) (s : State) (most : t .uni
         let h : u < t .units = omega (arith, d .unit) in
         let same = some-same (s .units) u (d .who) (omega arith) (d .at) in
         let n = tau-inv (d .node) in
-        let none : hs ≡ allStay = d .quiet ∙ six-stays (s .units) six in
-        (in-acts u k hs h (d .row) (subst (λ x. enabled x (rowAt t k) ≡ true) same (n .0)) (subst (λ a. In hs (combinations t s u a)) (sym (n .1 .0)) (head none)),
-        (ap (actLabel (freePart t (unitAt s u)) (unitAt s u)) (sym (n .1 .0)),
-        λ v. ap (λ (us : List UnitState). let r : State = record { units = us } in r) (d .lands (n .1 .1) v ∙ six-lands t s u k hs v six (ap length none) ∙ silent-steady t s u k hs (n .1 .0) none v (pos 0)) ∙ ap (λ a. acted t s u k hs (incoming (unitAt s u) a v)) (sym (n .1 .0))))
+        let none : hs ≡ allStay = d .quiet ∙ six-stays (s .units) six in (
+          in-acts u k hs h (d .row) (subst (λ x. enabled x (rowAt t k) ≡ true) same (n .0)) (subst (λ a. In hs (combinations t s u a)) (sym (n .1 .0)) (head none)),
+          (
+            ap (actLabel (freePart t (unitAt s u)) (unitAt s u)) (sym (n .1 .0)),
+            λ v. ap (λ (us : List UnitState). let r : State = record { units = us } in r) (d .lands (n .1 .1) v ∙ six-lands t s u k hs v six (ap length none) ∙ silent-steady t s u k hs (n .1 .0) none v (pos 0)) ∙ ap (λ a. acted t s u k hs (incoming (unitAt s u) a v)) (sym (n .1 .0)),
+          ),
+        )
 
     listed-inp : (G : GroupSet) (f : ℤ → List UnitState) → Alone t 0 (s .units) (inp G) u k hs f → empty (part (t .free) G) ≡ false → Listed (Act u k hs) (Receive (part (t .free) G)) (λ v. record { units = f v })
     listed-inp G f d c =
@@ -250,10 +262,13 @@ module _ (t : Net) (allowed : List GroupSet → Bool) (s : State) (most : t .uni
         let on : G ≡ unitAt s u .groups = n .1 .1 .1 .0 ∙ ap (λ (x : UnitState). x .groups) same in
         let none : hs ≡ allStay = d .quiet ∙ six-stays (s .units) six in
         let free : empty (freePart t (unitAt s u)) ≡ false = ap (λ x. empty (part (t .free) x)) (sym on) ∙ c in
-        let mem : In hs (combinations t s u (Hear (n .0))) = subst (λ b. In hs (cond b [] (allStay ∷ []))) (sym free) (head none) in
-        (in-acts u k hs h (d .row) (subst (λ x. enabled x (rowAt t k) ≡ true) same (n .1 .0)) (subst (λ a. In hs (combinations t s u a)) (sym (n .1 .1 .0)) mem),
-        (ap (λ x. Receive (part (t .free) x)) on ∙ ap (actLabel (freePart t (unitAt s u)) (unitAt s u)) (sym (n .1 .1 .0)),
-        λ v. ap (λ (us : List UnitState). let r : State = record { units = us } in r) (d .lands (n .1 .1 .1 .1) v ∙ six-lands t s u k hs v six (ap length none)) ∙ ap (λ a. acted t s u k hs (incoming (unitAt s u) a v)) (sym (n .1 .1 .0))))
+        let mem : In hs (combinations t s u (Fill (n .0))) = subst (λ b. In hs (cond b [] (allStay ∷ []))) (sym free) (head none) in (
+          in-acts u k hs h (d .row) (subst (λ x. enabled x (rowAt t k) ≡ true) same (n .1 .0)) (subst (λ a. In hs (combinations t s u a)) (sym (n .1 .1 .0)) mem),
+          (
+            ap (λ x. Receive (part (t .free) x)) on ∙ ap (actLabel (freePart t (unitAt s u)) (unitAt s u)) (sym (n .1 .1 .0)),
+            λ v. ap (λ (us : List UnitState). let r : State = record { units = us } in r) (d .lands (n .1 .1 .1 .1) v ∙ six-lands t s u k hs v six (ap length none)) ∙ ap (λ a. acted t s u k hs (incoming (unitAt s u) a v)) (sym (n .1 .1 .0)),
+          ),
+        )
 
     listed-out : (G : GroupSet) (w : ℤ) (f : ℤ → List UnitState) (l : Label) → Sent t 0 (s .units) G w u k hs f → l ≡ cond (empty (part (t .free) G)) Hidden (Broadcast (part (t .free) G) w) → Listed (Act u k hs) l (λ v. record { units = f v })
     listed-out G w f l d is =
@@ -263,23 +278,27 @@ module _ (t : Net) (allowed : List GroupSet → Bool) (s : State) (most : t .uni
         let says : w ≡ reads (unitAt s u) (d .what) = d .value ∙ ap (λ x. reads x (d .what)) same in
         let z : 0 + u ≡ u = omega arith in
         let mem : In hs (product (map (choices t s u) (counting 0 6))) = subst (λ os. In hs (product os)) (six-choices t s u six) (subst (λ x. In hs (product (optlist t x u 0 (s .units)))) on (subst (λ U. In hs (product (optlist t G U 0 (s .units)))) z (d .chosen))) in
-        let long : length hs ≡ 6 = length-in-product (map (choices t s u) (counting 0 6)) hs mem in
-        (in-acts u k hs h (d .row) (subst (λ x. enabled x (rowAt t k) ≡ true) same (d .may)) (subst (λ a. In hs (combinations t s u a)) (sym (d .sends)) mem),
-        (is ∙ ap (λ x. cond (empty (part (t .free) x)) Hidden (Broadcast (part (t .free) x) w)) on ∙ ap (λ x. cond (empty (freePart t (unitAt s u))) Hidden (Broadcast (freePart t (unitAt s u)) x)) says ∙ ap (actLabel (freePart t (unitAt s u)) (unitAt s u)) (sym (d .sends)),
-        λ v. ap (λ (us : List UnitState). let r : State = record { units = us } in r) (d .lands v ∙ six-lands t s u k hs w six long) ∙ ap (acted t s u k hs) says ∙ ap (λ a. acted t s u k hs (incoming (unitAt s u) a v)) (sym (d .sends))))
+        let long : length hs ≡ 6 = length-in-product (map (choices t s u) (counting 0 6)) hs mem in (
+          in-acts u k hs h (d .row) (subst (λ x. enabled x (rowAt t k) ≡ true) same (d .may)) (subst (λ a. In hs (combinations t s u a)) (sym (d .sends)) mem),
+          (
+            is ∙ ap (λ x. cond (empty (part (t .free) x)) Hidden (Broadcast (part (t .free) x) w)) on ∙ ap (λ x. cond (empty (freePart t (unitAt s u))) Hidden (Broadcast (freePart t (unitAt s u)) x)) says ∙ ap (actLabel (freePart t (unitAt s u)) (unitAt s u)) (sym (d .sends)),
+            λ v. ap (λ (us : List UnitState). let r : State = record { units = us } in r) (d .lands v ∙ six-lands t s u k hs w six long) ∙ ap (acted t s u k hs) says ∙ ap (λ a. acted t s u k hs (incoming (unitAt s u) a v)) (sym (d .sends)),
+          ),
+        )
 
   listed : (w : Way) (l : Label) (f : ℤ → State) → Derives t allowed s w l f → Listed w l f
-  listed w l f (MOBILITY u g h g-low other free ok) =
-      (in-left (acts t s) (in-joined (movementsOf t allowed s) (counting 0 (t .units)) (in-counting 0 (t .units) u (omega arith) (omega arith))
+  listed w l f (MOBILITY u g h g-low other free ok) = (
+    in-left (acts t s) (in-joined (movementsOf t allowed s) (counting 0 (t .units)) (in-counting 0 (t .units) u (omega arith) (omega arith))
         (in-map (λ b. Move u (setOf b)) (in-kept (λ b. mayMove t allowed s u (setOf b)) (counting 0 256) (in-counting 0 256 (g .bits) (omega arith) (omega arith))
-          (and-from (not (eqb (g .bits) (unitAt s u .groups .bits))) (eqb (part (t .free) g .bits) (freePart t (unitAt s u) .bits) && allowed (placed t (moved s u g)))
-            (not-from-false (eqb (g .bits) (unitAt s u .groups .bits)) (ne-eqb (g .bits) (unitAt s u .groups .bits) other))
-            (and-from (eqb (part (t .free) g .bits) (freePart t (unitAt s u) .bits)) (allowed (placed t (moved s u g))) (eq-eqb (part (t .free) g .bits) (freePart t (unitAt s u) .bits) (ap (λ (x : GroupSet). x .bits) free)) ok))))),
-      (refl, λ v. refl))
-  listed w l f (RES-TAU {u = u} {k = k} {hs = hs} {f = g} d) = listed-tau u k hs g (alone-to d tt)
-  listed w l f (RES-OUT {u = u} {k = k} {G = G} {w = x} {hs = hs} {f = g} d c) = listed-out u k hs G x g (Broadcast (part (t .free) G) x) (cast-to d) (ap (λ b. cond b Hidden (Broadcast (part (t .free) G) x)) (sym c))
-  listed w l f (RES-HIDE {u = u} {k = k} {G = G} {w = x} {hs = hs} {f = g} d c) = listed-out u k hs G x g Hidden (cast-to d) (ap (λ b. cond b Hidden (Broadcast (part (t .free) G) x)) (sym c))
-  listed w l f (RES-INP {u = u} {k = k} {G = G} {hs = hs} {f = g} d c) = listed-inp u k hs G g (alone-to d tt) c
+        (and-from (not (eqb (g .bits) (unitAt s u .groups .bits))) (eqb (part (t .free) g .bits) (freePart t (unitAt s u) .bits) && allowed (placed t (moved s u g)))
+        (not-from-false (eqb (g .bits) (unitAt s u .groups .bits)) (ne-eqb (g .bits) (unitAt s u .groups .bits) other))
+        (and-from (eqb (part (t .free) g .bits) (freePart t (unitAt s u) .bits)) (allowed (placed t (moved s u g))) (eq-eqb (part (t .free) g .bits) (freePart t (unitAt s u) .bits) (ap (λ (x : GroupSet). x .bits) free)) ok))))),
+    (refl, λ v. refl),
+  )
+  listed w l f (RES-TAU {u = u} {k = k} {cs = hs} {f = g} d) = listed-tau u k hs g (alone-to d tt)
+  listed w l f (RES-OUT {u = u} {k = k} {G = G} {w = x} {cs = hs} {f = g} d c) = listed-out u k hs G x g (Broadcast (part (t .free) G) x) (cast-to d) (ap (λ b. cond b Hidden (Broadcast (part (t .free) G) x)) (sym c))
+  listed w l f (RES-HIDE {u = u} {k = k} {G = G} {w = x} {cs = hs} {f = g} d c) = listed-out u k hs G x g Hidden (cast-to d) (ap (λ b. cond b Hidden (Broadcast (part (t .free) G) x)) (sym c))
+  listed w l f (RES-INP {u = u} {k = k} {G = G} {cs = hs} {f = g} d c) = listed-inp u k hs G g (alone-to d tt) c
 
   pub exact : lawful t allowed s ≡ true → Exact t allowed s
   exact lawfully =

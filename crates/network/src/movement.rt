@@ -28,7 +28,8 @@ impl<R: Rule> Network<R> {
         let free = self.table.free;
         set.bits != old.bits
             && set.part_within(free).bits == old.part_within(free).bits
-            && self.rule.allows(&self.table.placement(&moved(state, unit, set)))
+            && self.rule
+                .allows(&self.table.placement(&moved(state, unit, set)))
     }
 
     fn movement_count_of(&self, state: &State, unit: usize) -> usize

@@ -23,7 +23,38 @@ const FREE: GroupSet = GroupSet { bits: 1 };
 
 /// Row 0: at location 0 broadcast -2, to 1. Row 1: at location 2 receive into the first register, to 3.
 const ROWS: [u8; 32] = [
-    0, 0, 0, 0, 0, 0, 1, 2, 0xFE, 1, 0, 0, 1, 0, 0, 0, 2, 0, 0, 0, 0, 0, 2, 0, 0, 3, 0, 0, 1, 0, 0, 0,
+    0,
+    0,
+    0,
+    0,
+    0,
+    0,
+    1,
+    2,
+    0xFE,
+    1,
+    0,
+    0,
+    1,
+    0,
+    0,
+    0,
+    2,
+    0,
+    0,
+    0,
+    0,
+    0,
+    2,
+    0,
+    0,
+    3,
+    0,
+    0,
+    1,
+    0,
+    0,
+    0,
 ];
 
 fn network(heap: Global, units: usize, limit: u32) -> Result<Network<AtMost>, Fail> {
@@ -67,7 +98,10 @@ fn is_step(
     value: Value,
     to: &State,
 ) -> bool {
-    match (network.label(state, step), network.landing(state, step, value)) {
+    match (
+        network.label(state, step),
+        network.landing(state, step, value),
+    ) {
         (Some(label), Some(landing)) => label.same(&expected) && landing.same(to),
         _ => false,
     }
@@ -90,7 +124,14 @@ fn movements_keep_the_free_part(rt: LibcRuntime) -> Result<(), Fail> {
     check_eq(net.step_count(&state), 8)?;
     let mut step = 0;
     for set in [3, 5, 9, 17, 33, 65, 129] {
-        check(is_step(&net, &state, step, Label::Movement, 0, &one(unit(0, 0, set))))?;
+        check(is_step(
+            &net,
+            &state,
+            step,
+            Label::Movement,
+            0,
+            &one(unit(0, 0, set)),
+        ))?;
         step += 1;
     }
     check(is_step(&net, &state, 7, SENT, 0, &one(unit(1, 0, 1))))

@@ -8,8 +8,8 @@ use Rattle.network.proofs.network.Network.add_movements_of.Needs.{then-may-mov
 pub loop-bits-again : need.loop-bits-again
 loop-bits-again g c =
     elim (c .if-may-move .came) [
-      then-may-move·in-Continue-push w ↦ rw (w .ways-is) (sifting-yes (λ b. mayMove (netOf (c .args .self .now .table)) (g .R·Rule .allowed (c .args .self .now .rule)) (c .args .state .now) (c .args .unit) (setOf b)) (λ b. Move (c .args .unit) (setOf b)) _ _ _ (c .loop-bits .inv) _ _ (c .may-move .ensures) (w .if-may-move .taken) (w .in-Continue-push .ensures tt .items))
-    | else-may-move w ↦ rw (w .ways-is) (sifting-no (λ b. mayMove (netOf (c .args .self .now .table)) (g .R·Rule .allowed (c .args .self .now .rule)) (c .args .state .now) (c .args .unit) (setOf b)) (λ b. Move (c .args .unit) (setOf b)) _ _ _ (c .loop-bits .inv) _ (c .may-move .ensures) (w .if-may-move .left))
+      | then-may-move·in-Continue-push w ↦ rw (w .ways-is) (sifting-yes (λ b. mayMove (netOf (c .args .self .now .table)) (g .R·Rule .allowed (c .args .self .now .rule)) (c .args .state .now) (c .args .unit) (setOf b)) (λ b. Move (c .args .unit) (setOf b)) _ _ _ (c .loop-bits .inv) _ _ (c .may-move .ensures) (w .if-may-move .taken) (w .in-Continue-push .ensures tt .items))
+      | else-may-move w ↦ rw (w .ways-is) (sifting-no (λ b. mayMove (netOf (c .args .self .now .table)) (g .R·Rule .allowed (c .args .self .now .rule)) (c .args .state .now) (c .args .unit) (setOf b)) (λ b. Move (c .args .unit) (setOf b)) _ _ _ (c .loop-bits .inv) _ (c .may-move .ensures) (w .if-may-move .left))
     ]
 
 pub returns : need.returns

@@ -12,8 +12,8 @@ returns-then-left-eq0 g c =
 pub loop-bits-again : need.loop-bits-again
 loop-bits-again g c =
     elim (c .if-may-move .came) [
-      then-may-move·else-left-eq0 w ↦ rw (w .left-is) (sift-yes (λ b. mayMove (netOf (c .args .self .now .table)) (g .R·Rule .allowed (c .args .self .now .rule)) (c .args .state .now) (c .args .unit) (setOf b)) (λ b. Move (c .args .unit) (setOf b)) 256 (c .loop-bits .bits) _ _ (c .loop-bits .inv) (c .loop-bits-test .taken) (c .may-move .result) (c .may-move .ensures) (w .if-may-move .taken) (w .if-left-eq0 .left))
-    | else-may-move w ↦ rw (w .left-is) (sift-no (λ b. mayMove (netOf (c .args .self .now .table)) (g .R·Rule .allowed (c .args .self .now .rule)) (c .args .state .now) (c .args .unit) (setOf b)) (λ b. Move (c .args .unit) (setOf b)) 256 (c .loop-bits .bits) _ _ (c .loop-bits .inv) (c .loop-bits-test .taken) (c .may-move .result) (c .may-move .ensures) (w .if-may-move .left))
+      | then-may-move·else-left-eq0 w ↦ rw (w .left-is) (sift-yes (λ b. mayMove (netOf (c .args .self .now .table)) (g .R·Rule .allowed (c .args .self .now .rule)) (c .args .state .now) (c .args .unit) (setOf b)) (λ b. Move (c .args .unit) (setOf b)) 256 (c .loop-bits .bits) _ _ (c .loop-bits .inv) (c .loop-bits-test .taken) (c .may-move .result) (c .may-move .ensures) (w .if-may-move .taken) (w .if-left-eq0 .left))
+      | else-may-move w ↦ rw (w .left-is) (sift-no (λ b. mayMove (netOf (c .args .self .now .table)) (g .R·Rule .allowed (c .args .self .now .rule)) (c .args .state .now) (c .args .unit) (setOf b)) (λ b. Move (c .args .unit) (setOf b)) 256 (c .loop-bits .bits) _ _ (c .loop-bits .inv) (c .loop-bits-test .taken) (c .may-move .result) (c .may-move .ensures) (w .if-may-move .left))
     ]
 
 pub returns : need.returns
