@@ -2,3 +2,4 @@ pub mod Derived
 pub mod Composed
 pub mod Ascending
 pub mod Exactly
+pub mod Lawfulness

@@ -5,8 +5,9 @@ ghost use mathlib.Core.Bool.{true};
 ghost use Rattle.std.specs.Of.Vec.{vec-items};
 ghost use Rattle.std.specs.Vec.{made};
 ghost use Rattle.ways.specs.Nets.{netOf};
-ghost use Rattle.network.specs.Meanings.{lawful, lawfulWays};
+ghost use Rattle.network.specs.Meanings.{lawful, lawfulWays, networkMeaning};
 ghost use Rattle.calculus.specs.Exactness.{StepsExact, Exact};
+ghost use Rattle.calculus.specs.Lawfulness.{LandsLawfully};
 use model::state::State;
 use network::network::Network;
 use rules::rule::Rule;
@@ -31,4 +32,11 @@ pub fn derivable_ways<R: Rule>(
     // The read shows the proof that a state has six slots.
     let _first = state.units[0];
     network.ways(heap, state)
+}
+
+/// A step of this network from a lawful state lands in lawful states. There is nothing to compute.
+pub fn landings_are_lawful<R: Rule>(network: &Network<R>)
+    ensures { λ _. ⌜ LandsLawfully (networkMeaning (netOf (now (network .entry) .table)) (R·Rule .allowed (now (network .entry) .rule))) ⌝ }
+{
+    let _units = network.table.units;
 }
