@@ -7,3 +7,4 @@ pub mod Ordered
 pub mod Adding
 pub mod Gathered
 pub mod Kept
+pub mod Mapped

@@ -23,7 +23,10 @@ impl Table {
             Action::Silent => 1,
             Action::Broadcast(_) => self.combination_count(state, unit),
             Action::Receive(_) => {
-                if unit_at(state, unit).groups.part_within(self.free).is_empty() {
+                if unit_at(state, unit)
+                    .groups
+                    .part_within(self.free)
+                    .is_empty() {
                     0
                 } else {
                     1

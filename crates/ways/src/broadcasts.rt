@@ -25,12 +25,7 @@ impl Table {
     }
 
     /// The combination with this number, digit by digit: the lowest unit is the slowest.
-    pub(crate) fn combination(
-        &self,
-        state: &State,
-        sender: usize,
-        number: usize,
-    ) -> [Choice; UNITS]
+    pub(crate) fn combination(&self, state: &State, sender: usize, number: usize) -> [Choice; UNITS]
         requires { ⌜ number < volume (map (choices (netOf (now self)) (now state) sender) (counting 0 6)) ⌝ }
         ensures { λ r. ⌜ r ≡ digits Stay (map (choices (netOf (now (self .entry))) (now (state .entry)) sender) (counting 0 6)) number ⌝ }
     {

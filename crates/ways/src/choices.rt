@@ -54,7 +54,9 @@ impl Table {
     {
         unit < self.units
             && unit != sender
-            && unit_at(state, sender).groups.is_linked(unit_at(state, unit).groups)
+            && unit_at(state, sender)
+                .groups
+                .is_linked(unit_at(state, unit).groups)
     }
 
     /// How many choices a unit has while the sender broadcasts.

@@ -8,8 +8,8 @@ pub returns-then-number-eq0 : need.returns-then-number-eq0
 returns-then-number-eq0 c =
     choice-stay _ _ (c .args .number)
     (elim (c .then-number-eq0 .came) [
-      then-number-eq0·by·then-number-eq0 w ↦ inl (w .if-number-eq0 .taken)
-    | then-number-eq0·by·else-number-eq0·then-not-is-listener w ↦ inr (sym (w .is-listener .ensures) ∙ w .if-not-is-listener .taken)
+      | then-number-eq0·by·then-number-eq0 w ↦ inl (w .if-number-eq0 .taken)
+      | then-number-eq0·by·else-number-eq0·then-not-is-listener w ↦ inr (sym (w .is-listener .ensures) ∙ w .if-not-is-listener .taken)
     ])
 
 pub returns-in-Some : need.returns-in-Some

@@ -18,8 +18,8 @@ loop-row-again c =
     let within : c .loop-row .row < length (netOf (c .args .self .now) .rows) = search needs in
     let p = receivableAt (netOf (c .args .self .now)) (c .args .state .now) (c .args .unit) in
     elim (c .if-is-receivable .came) [
-      then-is-receivable·else-left-eq0 w ↦ rw (w .left-is) (sift-yes p Take _ (c .loop-row .row) _ _ (c .loop-row .inv) within (c .is-receivable .result) (c .is-receivable .ensures) (w .if-is-receivable .taken) (w .if-left-eq0 .left))
-    | else-is-receivable w ↦ rw (w .left-is) (sift-no p Take _ (c .loop-row .row) _ _ (c .loop-row .inv) within (c .is-receivable .result) (c .is-receivable .ensures) (w .if-is-receivable .left))
+      | then-is-receivable·else-left-eq0 w ↦ rw (w .left-is) (sift-yes p Take _ (c .loop-row .row) _ _ (c .loop-row .inv) within (c .is-receivable .result) (c .is-receivable .ensures) (w .if-is-receivable .taken) (w .if-left-eq0 .left))
+      | else-is-receivable w ↦ rw (w .left-is) (sift-no p Take _ (c .loop-row .row) _ _ (c .loop-row .inv) within (c .is-receivable .result) (c .is-receivable .ensures) (w .if-is-receivable .left))
     ]
 
 pub returns : need.returns

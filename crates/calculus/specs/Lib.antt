@@ -1,0 +1,3 @@
+pub mod Calculus
+pub mod Exactness
+pub mod Lawfulness

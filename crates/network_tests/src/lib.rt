@@ -1,0 +1,4 @@
+// Worked examples of networks.
+pub mod at_most;
+#[cfg(test)]
+mod tests;
