@@ -9,7 +9,30 @@ use std::error::AnyError;
 /// The first row receives and lands in 1 for every value, the second in 2, the third in 1 for 0 and in 2 for the others; the
 /// fourth broadcasts -2 from 1.
 pub const FOUR_ROWS: [u8; 24] = [
-    0, 3, 1, 0, 1, 1, 0, 3, 1, 0, 2, 2, 0, 3, 1, 0, 1, 2, 1, 2, 1, 0xFE, 2, 2,
+    0,
+    3,
+    1,
+    0,
+    1,
+    1,
+    0,
+    3,
+    1,
+    0,
+    2,
+    2,
+    0,
+    3,
+    1,
+    0,
+    1,
+    2,
+    1,
+    2,
+    1,
+    0xFE,
+    2,
+    2,
 ];
 
 /// The same without the third row.

@@ -57,7 +57,12 @@ fn show_step<S: System>(
 }
 
 /// The steps of a state, of which so many units are shown.
-pub fn show_steps<S: System>(rt: &LibcRuntime, system: &S, state: &State, units: usize) -> Result<(), AnyError> {
+pub fn show_steps<S: System>(
+    rt: &LibcRuntime,
+    system: &S,
+    state: &State,
+    units: usize,
+) -> Result<(), AnyError> {
     print!(rt, "steps of")?;
     show_state(rt, state, units)?;
     let count = system.step_count(state);
