@@ -93,7 +93,7 @@ module _ (n : Net) where
       let c = and-parts (operandInRange (n .lo) (n .hi) (r .first)) (operandInRange (n .lo) (n .hi) (r .second)) (b .1) in
       and-from (leb (r .to) 63) _ (a .0)
       (and-from (ok (reads (filled x (r .action) v) (r .first))) (ok (reads (filled x (r .action) v) (r .second)))
-        (reads-kept (filled x (r .action) v) (r .first) (f .0) (f .1) (c .0)) (reads-kept (filled x (r .action) v) (r .second) (f .0) (f .1) (c .1)))
+      (reads-kept (filled x (r .action) v) (r .first) (f .0) (f .1) (c .0)) (reads-kept (filled x (r .action) v) (r .second) (f .0) (f .1) (c .1)))
 
 filled-groups : (x : UnitState) (a : Action) (v : ℤ) → filled x a v .groups ≡ x .groups
 filled-groups x Silent v = refl
@@ -128,9 +128,9 @@ module _ (f : ℕ → UnitState) where
   written-lawful n h =
       each-every (λ _. slotLawful n written) 0 (counting 0 6)
       (λ i x at.
-        let l : i < 6 = nth-within (counting 0 6) i x at in
-        let e : x ≡ i = some-same (nth (counting 0 6) i) x i at (nth-slot 6 i l) in
-        ap (slotLawful n written) e ∙ ap (λ y. cond (ltb i (n .units)) (unitInRange n y) (zeroBytes y)) (written-at i l) ∙ h i l)
+      let l : i < 6 = nth-within (counting 0 6) i x at in
+      let e : x ≡ i = some-same (nth (counting 0 6) i) x i at (nth-slot 6 i l) in
+      ap (slotLawful n written) e ∙ ap (λ y. cond (ltb i (n .units)) (unitInRange n y) (zeroBytes y)) (written-at i l) ∙ h i l)
 
   placed-alike : (n : Net) (s : State) → n .units ≤ 6 → ((j : ℕ) → f j .groups ≡ unitAt s j .groups) → placed n written ≡ placed n s
   placed-alike n s most h =
@@ -164,7 +164,7 @@ module _ (n : Net) (allowed : List GroupSet → Bool) (s : State) (most : n .uni
       and-from (every (slotLawful n (acted n s u k cs v)) (counting 0 6)) (allowed (placed n (acted n s u k cs v)))
       (written-lawful (slotAfter n s u k cs v) n (λ j l. chosen-lawful (cond (eqb j u) (Take k) (getD cs j Stay)) v j l (h j l)))
       (ap allowed (placed-alike (slotAfter n s u k cs v) n s most (λ j. chosen-groups n (unitAt s j) (cond (eqb j u) (Take k) (getD cs j Stay)) v))
-        ∙ and-parts (every (slotLawful n s) (counting 0 6)) (allowed (placed n s)) is .1)
+      ∙ and-parts (every (slotLawful n s) (counting 0 6)) (allowed (placed n s)) is .1)
 
   -- the unit u takes its row, and the others choose
   sound-by : (u k : ℕ) (cs : List Choice) (v : ℤ) → u < n .units → (isReceive (rowAt n k .action) ≡ true → inRange (n .lo) (n .hi) v ≡ true)
@@ -205,7 +205,7 @@ module _ (n : Net) (allowed : List GroupSet → Bool) (s : State) (most : n .uni
       let b = and-parts (actionInRange (n .lo) (n .hi) (rowAt n k .action)) _ (a .1) in
       let sent : inRange (n .lo) (n .hi) (reads (unitAt s u) o) ≡ true = reads-kept n (unitAt s u) o (r .0) (r .1) (sym (ap (actionInRange (n .lo) (n .hi)) q) ∙ b .0) in
       acted-lawful u k cs (reads (unitAt s u) o) (sound-by u k cs (reads (unitAt s u) o) low (λ _. sent)
-        (λ j l i e. (listener-low u j i (getD cs j Stay) (rw (getD-map-counting (choices n s u) 0 6 j j [] l (zero-add j)) at (product-each Stay (map (choices n s u) (counting 0 6)) cs j m l)) e, λ _. sent)))
+      (λ j l i e. (listener-low u j i (getD cs j Stay) (rw (getD-map-counting (choices n s u) 0 6 j j [] l (zero-add j)) at (product-each Stay (map (choices n s u) (counting 0 6)) cs j m l)) e, λ _. sent)))
   act-lawful u k cs v (Fill x) low q h m =
       acted-lawful u k cs v (sound-by u k cs v low (λ _. h) (λ j l i e. absurd (nobody-takes cs j i (only (when-not (empty (freePart n (unitAt s u))) m)) e)))
     where

@@ -122,8 +122,7 @@ fn movements_keep_the_free_part(rt: LibcRuntime) -> Result<(), Fail> {
     let net = network(rt.alloc(), 1, 2)?;
     let state = one(unit(0, 0, 1));
     check_eq(net.step_count(&state), 8)?;
-    let mut step = 0;
-    for set in [3, 5, 9, 17, 33, 65, 129] {
+    for (step, set) in [(0, 3), (1, 5), (2, 9), (3, 17), (4, 33), (5, 65), (6, 129)] {
         check(is_step(
             &net,
             &state,
@@ -132,7 +131,6 @@ fn movements_keep_the_free_part(rt: LibcRuntime) -> Result<(), Fail> {
             0,
             &one(unit(0, 0, set)),
         ))?;
-        step += 1;
     }
     check(is_step(&net, &state, 7, SENT, 0, &one(unit(1, 0, 1))))
 }
