@@ -184,3 +184,34 @@ fn unlawful_states_have_no_steps(rt: LibcRuntime) -> Result<(), Fail> {
     check_eq(net.step_count(&state), 0)?;
     check_eq(net.shown(&state).bits, 0)
 }
+
+/// Whether a network of so many units and these rows is refused with the question and the row number.
+fn is_refused(
+    heap: Global,
+    units: usize,
+    rows: &[u8],
+    question: u8,
+    item: usize,
+) -> Result<bool, Fail> {
+    let range = Range::new(-2, 2)?;
+    match Network::load(heap, range, FREE, units, rows, AtMost { limit: 1 }) {
+        Ok(_network) => Ok(false),
+        Err(fault) => match fault.refusal() {
+            Some(refusal) => Ok(refusal.question == question && refusal.item == item),
+            None => Ok(false),
+        },
+    }
+}
+
+#[test]
+fn refusals_in_their_order(rt: LibcRuntime) -> Result<(), Fail> {
+    check(is_refused(rt.alloc(), 0, &ROWS, 5, 0)?)?;
+    check(is_refused(rt.alloc(), 7, &ROWS[0..31], 5, 0)?)?;
+    check(is_refused(rt.alloc(), 1, &ROWS[0..31], 6, 0)?)?;
+    check(is_refused(rt.alloc(), 1, &[0; 1040], 6, 0)?)?;
+    let mut rows = ROWS;
+    rows[31] = 1;
+    check(is_refused(rt.alloc(), 1, &rows, 7, 1)?)?;
+    rows[0] = 64;
+    check(is_refused(rt.alloc(), 1, &rows, 7, 0)?)
+}
