@@ -178,8 +178,8 @@ module _ (n : Net) (allowed : List GroupSet → Bool) (s : State) (most : n .uni
           (subst (λ m. m < n .units) (sym q) low, λ r. own (ap (λ m. isReceive (rowAt n m .action)) same ∙ r))
       step (inr q) = others j l i (sym (ap (λ b. cond b (Take k) (getD cs j Stay)) (ne-eqb j u q)) ∙ e)
 
-  nobody-takes : (cs : List Choice) (j i : ℕ) → cs ≡ allStay → getD cs j Stay ≡ Take i → ⊥
-  nobody-takes cs j i z e = stay-take i (sym (ap (λ c. getD c j Stay) z ∙ getD-stays 6 j) ∙ e)
+  none-takes : (cs : List Choice) (j i : ℕ) → cs ≡ allStay → getD cs j Stay ≡ Take i → ⊥
+  none-takes cs j i z e = stay-take i (sym (ap (λ c. getD c j Stay) z ∙ getD-stays 6 j) ∙ e)
 
   listener-low : (u j i : ℕ) (c : Choice) → In c (choices n s u j) → c ≡ Take i → j < n .units
   listener-low u j i c m e = step (in-cases m)
@@ -197,7 +197,7 @@ module _ (n : Net) (allowed : List GroupSet → Bool) (s : State) (most : n .uni
 
   act-lawful : (u k : ℕ) (cs : List Choice) (v : ℤ) (a : Action) → u < n .units → rowAt n k .action ≡ a → inRange (n .lo) (n .hi) v ≡ true → In cs (combinations n s u a) → lawful n allowed (acted n s u k cs (incoming (unitAt s u) a v)) ≡ true
   act-lawful u k cs v Silent low q h m =
-      acted-lawful u k cs (pos 0) (sound-by u k cs (pos 0) low (λ r. absurd (false≢true (sym (ap isReceive q) ∙ r))) (λ j l i e. absurd (nobody-takes cs j i (only m) e)))
+      acted-lawful u k cs (pos 0) (sound-by u k cs (pos 0) low (λ r. absurd (false≢true (sym (ap isReceive q) ∙ r))) (λ j l i e. absurd (none-takes cs j i (only m) e)))
   act-lawful u k cs v (Send o) low q h m =
       let p = and-parts (leb (unitAt s u .location) 63) _ (in-use u low) in
       let r = and-parts (inRange (n .lo) (n .hi) (unitAt s u .first)) (inRange (n .lo) (n .hi) (unitAt s u .second)) (p .1) in
@@ -207,7 +207,7 @@ module _ (n : Net) (allowed : List GroupSet → Bool) (s : State) (most : n .uni
       acted-lawful u k cs (reads (unitAt s u) o) (sound-by u k cs (reads (unitAt s u) o) low (λ _. sent)
       (λ j l i e. (listener-low u j i (getD cs j Stay) (rw (getD-map-counting (choices n s u) 0 6 j j [] l (zero-add j)) at (product-each Stay (map (choices n s u) (counting 0 6)) cs j m l)) e, λ _. sent)))
   act-lawful u k cs v (Fill x) low q h m =
-      acted-lawful u k cs v (sound-by u k cs v low (λ _. h) (λ j l i e. absurd (nobody-takes cs j i (only (when-not (empty (freePart n (unitAt s u))) m)) e)))
+      acted-lawful u k cs v (sound-by u k cs v low (λ _. h) (λ j l i e. absurd (none-takes cs j i (only (when-not (empty (freePart n (unitAt s u))) m)) e)))
     where
       when-not : (b : Bool) → In cs (cond b [] (allStay ∷ [])) → In cs (allStay ∷ [])
       when-not true m′ = absurd (in-none m′)

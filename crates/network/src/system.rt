@@ -46,11 +46,11 @@ impl<R: Rule> Network<R> {
         ensures { λ r. ⌜ made r (λ v. vec-items v ≡ lawfulWays (netOf (now (self .entry) .table)) (R·Rule .allowed (now (self .entry) .rule)) (now (state .entry))) ⌝ }
     {
         let mut ways = Vec::new(heap);
-        if self.is_state_lawful(state) {
-            self.add_movements(state, &mut ways)?;
-            self.table.add_acts(state, &mut ways)?;
+        if !self.is_state_lawful(state) {
+            return Ok(ways);
         }
-        Ok(ways)
+        self.add_movements(state, &mut ways)?;
+        self.table.with_acts(state, ways)
     }
 }
 

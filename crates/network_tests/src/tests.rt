@@ -122,8 +122,7 @@ fn movements_keep_the_free_part(rt: LibcRuntime) -> Result<(), Fail> {
     let net = network(rt.alloc(), 1, 2)?;
     let state = one(unit(0, 0, 1));
     check_eq(net.step_count(&state), 8)?;
-    let mut step = 0;
-    for set in [3, 5, 9, 17, 33, 65, 129] {
+    for (step, set) in [(0, 3), (1, 5), (2, 9), (3, 17), (4, 33), (5, 65), (6, 129)] {
         check(is_step(
             &net,
             &state,
@@ -132,7 +131,6 @@ fn movements_keep_the_free_part(rt: LibcRuntime) -> Result<(), Fail> {
             0,
             &one(unit(0, 0, set)),
         ))?;
-        step += 1;
     }
     check(is_step(&net, &state, 7, SENT, 0, &one(unit(1, 0, 1))))
 }
@@ -185,4 +183,35 @@ fn unlawful_states_have_no_steps(rt: LibcRuntime) -> Result<(), Fail> {
     check(!net.is_lawful(&state))?;
     check_eq(net.step_count(&state), 0)?;
     check_eq(net.shown(&state).bits, 0)
+}
+
+/// Whether a network of so many units and these rows is refused with the question and the row number.
+fn is_refused(
+    heap: Global,
+    units: usize,
+    rows: &[u8],
+    question: u8,
+    item: usize,
+) -> Result<bool, Fail> {
+    let range = Range::new(-2, 2)?;
+    match Network::load(heap, range, FREE, units, rows, AtMost { limit: 1 }) {
+        Ok(_network) => Ok(false),
+        Err(fault) => match fault.refusal() {
+            Some(refusal) => Ok(refusal.question == question && refusal.item == item),
+            None => Ok(false),
+        },
+    }
+}
+
+#[test]
+fn refusals_in_their_order(rt: LibcRuntime) -> Result<(), Fail> {
+    check(is_refused(rt.alloc(), 0, &ROWS, 5, 0)?)?;
+    check(is_refused(rt.alloc(), 7, &ROWS[0..31], 5, 0)?)?;
+    check(is_refused(rt.alloc(), 1, &ROWS[0..31], 6, 0)?)?;
+    check(is_refused(rt.alloc(), 1, &[0; 1040], 6, 0)?)?;
+    let mut rows = ROWS;
+    rows[31] = 1;
+    check(is_refused(rt.alloc(), 1, &rows, 7, 1)?)?;
+    rows[0] = 64;
+    check(is_refused(rt.alloc(), 1, &rows, 7, 0)?)
 }

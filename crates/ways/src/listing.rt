@@ -38,14 +38,15 @@ impl Table {
         Ok(())
     }
 
-    /// Adds the ways in which units take rows.
-    pub fn add_acts(&self, state: &State, ways: &mut Vec<Way>) -> Result<(), AllocError>
-        ensures { λ r. ⌜ made r (λ _. vec-items (now (ways .exit)) ≡ vec-items (now (ways .entry)) ++ acts (netOf (now (self .entry))) (now (state .entry))) ⌝ }
+    /// The ways, and after them those in which units take rows.
+    pub fn with_acts(&self, state: &State, ways: Vec<Way>) -> Result<Vec<Way>, AllocError>
+        ensures { λ r. ⌜ made r (λ v. vec-items v ≡ vec-items ways ++ acts (netOf (now (self .entry))) (now (state .entry))) ⌝ }
     {
+        let mut all = ways;
         for unit in 0..self.units {
-            self.add_acts_of(state, unit, ways)?;
+            self.add_acts_of(state, unit, &mut all)?;
         }
-        Ok(())
+        Ok(all)
     }
 
     fn listed(&self, state: &State, way: &Way, value: Value) -> Listed

@@ -5,7 +5,7 @@ use Rattle.std.specs.Of.Vec.{vec-items}
 use Rattle.std.specs.shelf.Lists.{joined}
 use Rattle.ways.specs.Nets.{netOf}
 use Rattle.ways.specs.Ways.{actsOf}
-use Rattle.ways.proofs.table.Table.add_acts.Given as given
+use Rattle.ways.proofs.table.Table.with_acts.Given as given
 
 abbrev pub Inv-loop-unit : given.InvT-loop-unit
-Inv-loop-unit l = vec-items (l .ways) ≡ vec-items (l .entry .ways) ++ joined (actsOf (netOf (l .self)) (l .state)) (counting 0 (l .unit))
+Inv-loop-unit l = vec-items (l .all) ≡ vec-items (l .entry .all) ++ joined (actsOf (netOf (l .self)) (l .state)) (counting 0 (l .unit))
