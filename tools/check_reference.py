@@ -1,5 +1,5 @@
 #!/usr/bin/env python3
-"""Holds the reference judge to the examples of docs/, and the examples to their verdicts.
+"""Holds the reference judge to the examples of docs/, and examples/ to their verdicts.
 
 Stops at the first difference; otherwise prints how many checks there were.
 """
@@ -90,8 +90,10 @@ def check_layouts() -> None:
     taken_apart = "05 03 00 00 02 00 02 01 00 06 01 00 02 FF 00 00"
     row = "at 5 if first < 0 receive second to 6 second -1"
     check("a row taken apart", row_bytes(row), bytes.fromhex(taken_apart))
-    for link, laid_out in (("010001", True), ("020005", True), ("030000", False), ("010006", False)):
-        check("a link " + link, link_is_laid_out(bytes.fromhex(link)), laid_out)
+    for link in ("010001", "020002", "020005"):
+        check("a link " + link, link_is_laid_out(bytes.fromhex(link)), True)
+    for link in ("000000", "030000", "010006"):
+        check("a link " + link, link_is_laid_out(bytes.fromhex(link)), False)
 
 
 def check_rows_of_formats() -> None:
@@ -230,6 +232,12 @@ def check_receives() -> None:
     check_steps("registers are read together", silent, [(4, 1, 2, 1)], [(SILENT, [[(4, 2, 1, 1)]])])
 
 
+def sets_moved_to(unit: tuple) -> set:
+    """The sets that one unit can move to under limit 2."""
+    steps = list_steps(network(limit=2), state(unit))
+    return {landings[0][0].groups for label, landings in steps if label == MOVEMENT}
+
+
 def check_hidden_groups() -> None:
     sender, hearer = (0, 0, 0, 2), (2, 0, 0, 2)
     steps = list_steps(network(units=2), state(sender, hearer))[-2:]
@@ -243,10 +251,8 @@ def check_hidden_groups() -> None:
     nowhere = (0, 0, 0, 0)
     expected = moves(nowhere, HIDDEN) + [(SILENT, [[(1, 0, 0, 0)]])]
     check_steps("a broadcast on no group", network(), [nowhere], expected)
-    moved = {landings[0][0].groups for _, landings in list_steps(network(limit=2), state(S0))}
-    check("free groups never move", moved & {0, 2, 6}, set())
-    taken_up = {landings[0][0].groups for _, landings in list_steps(network(limit=2), state(sender))}
-    check("free groups are kept", all(groups & 1 for groups in taken_up), True)
+    check("free groups are not dropped", sets_moved_to(S0) & {0, 2, 6}, set())
+    check("free groups are not taken up", sets_moved_to((0, 0, 0, 2)) & {1, 3}, set())
     twice = [(SENT, [[S1]]), (SENT, [[S1]])]
     check_steps("steps are not merged", network([ROW_0, ROW_0]), [S0], twice)
 
@@ -340,7 +346,26 @@ def check_examples() -> None:
         check(f"text of {job.name}", job_bytes(job.with_suffix(".txt").read_text()), data)
         check(f"verdict of {job.name}", verdict(data).hex(), listed[job.stem])
         check(f"text of {job.name} and back", job_bytes(job_text(data)), data)
-    check("the accepted job", (ROOT / "examples" / "replacement.job").read_bytes(), job_of_formats())
+    replacement = (ROOT / "examples" / "replacement.job").read_bytes()
+    check("the accepted job", replacement, job_of_formats())
+
+
+def framed_jobs(data: bytes) -> list:
+    """The jobs of a file of cases, each behind its length of four bytes."""
+    jobs, begin = [], 0
+    while begin < len(data):
+        end = begin + 4 + int.from_bytes(data[begin : begin + 4], "little")
+        jobs.append(data[begin + 4 : end])
+        begin = end
+    return jobs
+
+
+def check_text_of_cases() -> None:
+    jobs = framed_jobs((ROOT / "crates" / "cases" / "stdin").read_bytes())
+    lines = (ROOT / "crates" / "cases" / "stdout").read_text(encoding="ascii").splitlines()
+    check("a line for each case", len(lines), len(jobs))
+    changed = [number for number, job in enumerate(jobs) if job_bytes(job_text(job)) != job]
+    check("cases that change in text and back", changed, [])
 
 
 def check_refused_text() -> None:
@@ -380,6 +405,7 @@ def main() -> None:
     check_relations()
     check_hidden_relations()
     check_examples()
+    check_text_of_cases()
     check_refused_text()
     print(f"{checks} checks passed")
 

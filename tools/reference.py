@@ -7,6 +7,7 @@ prints the verdict as 32 hexadecimal digits.
 """
 
 import sys
+from functools import cache
 from itertools import product
 from typing import Callable, Iterable, Iterator, NamedTuple
 
@@ -248,6 +249,16 @@ def step_to(label: tuple, state: State) -> Step:
 # ---------------------------------------------------------------- networks
 
 
+@cache
+def other_sets(present: int, free: int) -> list:
+    """The sets that differ from the present one and have the same free part, by number."""
+    return [
+        groups
+        for groups in range(256)
+        if groups != present and groups & free == present & free
+    ]
+
+
 class Network(NamedTuple):
     """A network under Both of its links and its tuner limit."""
 
@@ -295,19 +306,12 @@ class Network(NamedTuple):
             yield from self.row_steps(state)
 
     def movements(self, state: State) -> Iterator[Step]:
-        for number in range(self.count):
-            for groups in range(256):
-                if self.may_move(state, number, groups):
+        placement = self.placement(state)
+        for number, present in enumerate(placement):
+            for groups in other_sets(present, self.free):
+                if self.allows(placement[:number] + [groups] + placement[number + 1 :]):
                     moved = state[number]._replace(groups=groups)
                     yield step_to(MOVEMENT, replaced(state, number, moved))
-
-    def may_move(self, state: State, number: int, groups: int) -> bool:
-        present = state[number].groups
-        if groups == present or groups & self.free != present & self.free:
-            return False
-        placement = self.placement(state)
-        placement[number] = groups
-        return self.allows(placement)
 
     def row_steps(self, state: State) -> Iterator[Step]:
         for number in range(self.count):

@@ -66,18 +66,24 @@ def label_cases() -> list:
         case("15: silent for a broadcast", Job(Side(), silent), no(15)),
         case("15: receive for a broadcast", Job(Side(), receives), no(15)),
         case("16: a receive more", Job(Side(), both), no(16, RIGHT, 0, 1)),
-        case("15: broadcasts on other sets", other_sets(), no(15)),
         case("15: movement for silent", movement_for_silent(), no(15)),
         case("silent on no group", Job(none, silent._replace(limit=0), nowhere), accepted(2)),
-        case("no value on no group", Job(none, other_value._replace(limit=0), nowhere), accepted(2)),
+        case("values on no group", Job(none, other_value._replace(limit=0), nowhere), accepted(2)),
     ]
 
 
-def other_sets() -> Job:
-    """Both states show the same set, but the senders are on different groups."""
-    side = running(SEND, free=3, units=2)
-    on_0, on_1 = "{0}) (1,0,0,{1})", "{1}) (1,0,0,{0})"
-    return Job(side, side, tuple((f"({at},0,0,{on_0}", f"({at},0,0,{on_1}") for at in (0, 1)))
+def set_label_cases() -> list:
+    """Both states show the same set, but the units that act are on different sets."""
+    cases = []
+    for name, row in (("broadcasts", SEND), ("receives", "at 0 receive first to 1 0 keep")):
+        for one, other in (("{0}", "{1}"), ("{0,1}", "{0}"), ("{2}", "{0,1,2}")):
+            side = running(row, free=255, units=2, limit=3)
+            rest = "(9,0,0,{0,1,2})"
+            pairs = tuple(
+                (f"({at},0,0,{one}) {rest}", f"({at},0,0,{other}) {rest}") for at in (0, 1)
+            )
+            cases.append(case(f"15: {name} on {one} and {other}", Job(side, side, pairs), no(15)))
+    return cases
 
 
 def movement_for_silent() -> Job:
@@ -91,7 +97,8 @@ def hidden_label_cases() -> list:
     """Hidden groups are taken out of labels; a receive on hidden groups alone is no step."""
     hears, quiet = running(HEAR, free=0x7F), running(free=0x7F)
     on_hidden = twice("(2,0,0,{7})", "(2,0,0,{})")
-    wide = running(SEND, free=0x7F, limit=2)
+    sends = running(SEND, free=0x7F, limit=2)
+    receives = running("at 0 receive first to 1 0 keep", free=0x7F, limit=2)
     sets = ("{0}", "{0,7}")
     pairs = tuple(
         (f"({at},0,0,{one})", f"({at},0,0,{other})")
@@ -101,7 +108,8 @@ def hidden_label_cases() -> list:
     )
     return [
         case("no receive on hidden groups", Job(hears, quiet, on_hidden), accepted(2)),
-        case("hidden groups are not in the label", Job(wide, wide, pairs), accepted(8)),
+        case("a broadcast beside a hidden group", Job(sends, sends, pairs), accepted(8)),
+        case("a receive beside a hidden group", Job(receives, receives, pairs), accepted(8)),
     ]
 
 
@@ -240,6 +248,7 @@ def reading_cases() -> list:
         value_dependent_replies()
         + values_one_by_one()
         + label_cases()
+        + set_label_cases()
         + hidden_label_cases()
         + movement_cases()
         + order_of_lists()

@@ -264,8 +264,8 @@ SAME_GUARDS = (
     ),
     (
         "differs from -1",
-        ["at 1 if first != -1 receive first to 1 0 keep"],
-        ["at 1 if first = -2 receive first to 1 0 keep", "at 1 if -1 < first receive first to 1 0 keep"],
+        ["at 1 if first != -1 receive first to 1 0 0"],
+        ["at 1 if first = -2 receive first to 1 0 0", "at 1 if -1 < first receive first to 1 0 0"],
     ),
     (
         "a constant for a register",
