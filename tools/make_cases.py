@@ -19,16 +19,17 @@ from cases.parts import Dice, accepted, case
 from cases.readings import reading_cases
 from cases.relations import shapes
 from cases.states import state_cases
-from reference import verdict
+from reference import LEFT, RIGHT, verdict
 
 CASES = Path(__file__).resolve().parent.parent / "crates" / "cases"
 SEED = 1
 
+# Questions that tell a side, and all others; 0 stands for accepted.
 SIDED = (1, 2, 3, 4, 5, 6, 7)
 UNSIDED = (0, 10, 12, 13, 14, 15, 16, 22, 23)
 FEWEST_CASES = 330
 MOST_BYTES = 3_000_000
-MOST_COMPARISONS = 5_000_000
+MOST_SECONDS = 20
 
 
 def shape_cases() -> list:
@@ -69,16 +70,23 @@ def judged(cases: list) -> list:
     return verdicts
 
 
+def require(condition: bool, what: str) -> None:
+    if not condition:
+        raise AssertionError(what)
+
+
 def check(verdicts: list, stdin: bytes, total: Cost) -> None:
     """Holds the cases to what they must cover and to what they may cost."""
     counts = Counter((told[0], told[1]) for told in verdicts)
     for question in SIDED:
-        assert counts[question, 0] >= 2 and counts[question, 1] >= 2, question
+        both = min(counts[question, LEFT], counts[question, RIGHT])
+        require(both >= 5, f"too few cases of question {question} on a side")
     for question in UNSIDED:
-        assert counts[question, 0] + counts[question, 1] >= 5, question
-    assert len(verdicts) >= FEWEST_CASES
-    assert len(stdin) <= MOST_BYTES
-    assert total.comparisons <= MOST_COMPARISONS
+        either = counts[question, LEFT] + counts[question, RIGHT]
+        require(either >= 5, f"too few cases of question {question}")
+    require(len(verdicts) >= FEWEST_CASES, "too few cases")
+    require(len(stdin) <= MOST_BYTES, "too many bytes")
+    require(total.seconds() <= MOST_SECONDS, "too much work")
 
 
 def framed(cases: list) -> bytes:

@@ -4,7 +4,7 @@ from typing import NamedTuple
 
 from reference import LEFT, RIGHT, No, Network, is_receive, judge_pair, list_steps, load_job
 
-# Measured on the proved judge, in microseconds.
+# Rough times of the proved judge, in microseconds.
 ASKING = 10
 COMPARING = 1
 

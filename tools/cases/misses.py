@@ -7,7 +7,7 @@ from text_to_job import row_bytes
 
 from .parts import Case, Dice, Job, accepted, as_bytes, case, no
 
-UNREACHED = "at 40 broadcast -1 to 41 keep keep"
+UNREACHED = "at 40 broadcast first to 41 keep keep"
 
 
 def in_bytes(rows: tuple) -> list:
@@ -35,8 +35,6 @@ def row_doubled(dice: Dice, job: Job) -> Job:
 
 def row_never_reached(dice: Dice, job: Job) -> Job:
     side = dice.pick((LEFT, RIGHT))
-    if not job.side(side).lo <= -1 <= job.side(side).hi:
-        return other_row_order(dice, job)
     return job.on(side, rows=(UNREACHED,) + job.side(side).rows)
 
 
