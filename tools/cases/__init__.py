@@ -1,0 +1,1 @@
+"""The cases that make_cases.py writes, by what they show."""
