@@ -1,13 +1,13 @@
 -- What a sheet means.
-use mathlib.Core.Bool.{Bool, cond, _&&_}
+use mathlib.Core.Bool.{cond}
 use mathlib.Core.List.{List, [], map}
 use Prim.Native.Nat.{ℕ}
 use lib.Dec.{eqb}
 use lib.IntN.{ℤ}
-use lib.Signed.{leZ}
 use Rattle.std.specs.Of.Vec.{vec-items}
 use Rattle.std.specs.shelf.Lists.{kept-by}
 use Rattle.lists.specs.Words.{given, records, gathered}
+use Rattle.model.specs.Alike.{sameValue}
 use Rattle.model.specs.Ranges.{inRange}
 use Rattle.model.specs.declared.group_set.GroupSet.{GroupSet}
 use Rattle.model.specs.declared.label.Label.{Label}
@@ -27,9 +27,6 @@ labelOf SilentRow = Silent
 labelOf MovementRow = Movement
 labelOf (BroadcastRow g w) = Broadcast g w
 labelOf (ReceiveRow g w other) = Receive g
-
-abbrev pub sameValue : ℤ → ℤ → Bool
-sameValue v w = leZ v w && leZ w v
 
 -- the number of the state in which a row lands for the value v: a receive lands in `to` for its own value, and in `other` for
 -- the rest
