@@ -8,6 +8,7 @@ import re
 from pathlib import Path
 from typing import NamedTuple
 
+from make_cases import all_cases
 from reference import (
     LEFT,
     MOVEMENT,
@@ -350,21 +351,8 @@ def check_examples() -> None:
     check("the accepted job", replacement, job_of_formats())
 
 
-def framed_jobs(data: bytes) -> list:
-    """The jobs of a file of cases, each behind its length of four bytes."""
-    jobs, begin = [], 0
-    while begin < len(data):
-        end = begin + 4 + int.from_bytes(data[begin : begin + 4], "little")
-        jobs.append(data[begin + 4 : end])
-        begin = end
-    return jobs
-
-
 def check_text_of_cases() -> None:
-    jobs = framed_jobs((ROOT / "crates" / "cases" / "stdin").read_bytes())
-    lines = (ROOT / "crates" / "cases" / "stdout").read_text(encoding="ascii").splitlines()
-    check("a line for each case", len(lines), len(jobs))
-    changed = [number for number, job in enumerate(jobs) if job_bytes(job_text(job)) != job]
+    changed = [each.name for each in all_cases() if job_bytes(job_text(each.data)) != each.data]
     check("cases that change in text and back", changed, [])
 
 

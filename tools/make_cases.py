@@ -1,5 +1,5 @@
 #!/usr/bin/env python3
-"""Writes the cases of crates/cases: framed jobs in stdin, expected lines in stdout.
+"""Writes the cases into target/cases: framed jobs in stdin, expected lines in stdout.
 
 Each job is a length of four bytes, low byte first, and then the job. Each line
 has the number of the job from 0, a space, and the reference judge's verdict in
@@ -21,7 +21,7 @@ from cases.relations import shapes
 from cases.states import state_cases
 from reference import LEFT, RIGHT, verdict
 
-CASES = Path(__file__).resolve().parent.parent / "crates" / "cases"
+CASES = Path(__file__).resolve().parent.parent / "target" / "cases"
 SEED = 1
 
 # Questions that tell a side, and all others; 0 stands for accepted.
