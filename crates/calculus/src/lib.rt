@@ -1,5 +1,7 @@
 // The steps of a network are those that the rules of the calculus derive. The rules stand in specs/Calculus.antt, and the
 // theorem in specs/Exactness.antt.
+#![tactic(auto)]
+
 ghost use Rattle.std.specs.Prelude.{◌≡◌, true, IfOk};
 ghost use Rattle.ways.specs.Nets.{net_of};
 ghost use Rattle.network.specs.Meanings.{lawful, lawful_ways, network_meaning};

@@ -1,4 +1,6 @@
 // A job: two networks and a relation in one input, and the verdict on it.
+#![tactic(auto)]
+
 mod checks;
 pub mod fault;
 pub mod job;

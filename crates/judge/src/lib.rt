@@ -1,5 +1,7 @@
 // The judge: whether a relation between two systems is a late strong bisimulation. One text for every two systems, which
 // are known by their meaning alone.
+#![tactic(auto)]
+
 pub mod comparison;
 pub mod fault;
 pub mod reply;

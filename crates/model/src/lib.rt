@@ -1,4 +1,6 @@
 // The vocabulary: values, ranges, group sets, states, pairs, placements and labels, with their bytes.
+#![tactic(auto)]
+
 mod bytes;
 pub mod group_set;
 pub mod label;

@@ -1,4 +1,6 @@
 // A network of units under a mobility rule of any kind, as a system.
+#![tactic(auto)]
+
 pub mod fault;
 mod lawful;
 mod load;

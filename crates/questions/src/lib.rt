@@ -1,5 +1,6 @@
 // Every refusal of the product is the first no among questions that are put in a stated order. What a question is, and
 // which no is the first, stands in specs/Asking.antt; the laws of it in proofs/.
+#![tactic(auto)]
 
 ghost use Rattle.std.specs.Prelude.{◌≡◌};
 ghost use Rattle.questions.specs.Sides.{side_byte};

@@ -1,4 +1,6 @@
 // Mobility rules: which placements of the units are allowed.
+#![tactic(auto)]
+
 pub mod both;
 pub mod fault;
 pub mod link;

@@ -1,4 +1,6 @@
 // Service sheets: systems that are written out as a table of rows.
+#![tactic(auto)]
+
 pub mod fault;
 mod layout;
 mod load;

@@ -1,4 +1,6 @@
 // Reads a job on standard input and writes the 16 bytes of its verdict.
+#![tactic(auto)]
+
 use input::fill;
 use job::verdict::{ENOUGH, verdict};
 use std::io::Write;

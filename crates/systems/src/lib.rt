@@ -1,3 +1,5 @@
+#![tactic(auto)]
+
 ghost use Rattle.std.specs.Prelude.{◌≡◌, length, IfOk};
 ghost use Rattle.systems.specs.Meaning.{Meaning, Keeps, label_at, landing_at};
 ghost use Rattle.systems.specs.Listing.{listing};

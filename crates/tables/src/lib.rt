@@ -1,3 +1,5 @@
+#![tactic(auto)]
+
 ghost use Rattle.std.specs.Prelude.{◌≡◌, ℕ, ◌/◌, ◌<◌, List, length, IfOk, Option};
 ghost use Rattle.std.specs.Option.{ok_or};
 ghost use Rattle.lists.specs.Words.{Stands, records, gathered};

@@ -1,4 +1,5 @@
 // A tour of the libraries: what was asked of each, and what it answered.
+#![tactic(auto)]
 
 mod judge_part;
 mod networks_part;

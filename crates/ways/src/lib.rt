@@ -1,4 +1,6 @@
 // The ways in which the units of a network take steps: by which unit and row, and with which choices of the others.
+#![tactic(auto)]
+
 mod acts;
 mod broadcasts;
 mod choices;
