@@ -1,9 +1,10 @@
 -- Each test of sameness decides equality. Assumes nothing.
-use Rattle.std.proofs.Common.{◌≡◌, ℕ, true, false, ◌&&◌, List, [], ◌∷◌, ℤ, ◌≤ℤ◌, Decides, sym, refl, ap, arith}
+use Rattle.std.proofs.Common.{◌≡◌, ℕ, true, false, ◌&&◌, List, [], ◌∷◌, ℤ, ◌≤ℤ◌, ◌==◌, Decides, sym, refl, ap, arith}
 use lib.Signed.{le_z}
 use Rattle.std.proofs.lemmas.Int.{ints}
-use Rattle.std.proofs.lemmas.Bool.Decides.{Decides-and, Decides-eqb, Decides-like}
+use Rattle.std.proofs.lemmas.Bool.Decides.{Decides-and, Decides-eqb, Decides-int_eq, Decides-like}
 use Rattle.std.proofs.lemmas.Bool.{and_parts, and_from}
+use Rattle.std.specs.Ordering.{int_eq}
 use Rattle.model.specs.declared.group_set.GroupSet.{GroupSet}
 use Rattle.model.specs.declared.label.Label.{Label}
 use Rattle.model.specs.declared.label.Label.TheVariants.{Silent, Movement, Broadcast, Receive}
@@ -44,6 +45,14 @@ decides_unit u w =
     Decides-like (same_unit u w) (λ h. unit_alike _ _ _ _ _ _ _ _ h.0 h.1.0 h.1.1.0 h.1.1.1)
     (λ e. (ap (λ (x : UnitState). x.location) e, (ap (λ (x : UnitState). x.first) e, (ap (λ (x : UnitState). x.second) e, ap (λ (x : UnitState). x.groups) e))))
     (Decides-and _ _ (Decides-eqb u.location w.location) (Decides-and _ _ (decides_value u.first w.first) (Decides-and _ _ (decides_value u.second w.second) (decides_set u.groups w.groups))))
+
+-- what `==` answers at units decides equality
+pub decides_eq : (u w : UnitState) → Decides (u.location == w.location && (int_eq u.first w.first && (int_eq u.second w.second && u.groups.bits == w.groups.bits))) (u ≡ w)
+decides_eq u w =
+    Decides-like (u.location == w.location && (int_eq u.first w.first && (int_eq u.second w.second && u.groups.bits == w.groups.bits)))
+    (λ h. unit_alike _ _ _ _ _ _ u.groups w.groups h.0 h.1.0 h.1.1.0 (ap (λ n. record { bits = n }) h.1.1.1))
+    (λ e. (ap (λ (x : UnitState). x.location) e, (ap (λ (x : UnitState). x.first) e, (ap (λ (x : UnitState). x.second) e, ap (λ (x : UnitState). x.groups.bits) e))))
+    (Decides-and _ _ (Decides-eqb u.location w.location) (Decides-and _ _ (Decides-int_eq u.first w.first) (Decides-and _ _ (Decides-int_eq u.second w.second) (Decides-eqb u.groups.bits w.groups.bits))))
 
 clash : false ≡ true → ⊥
 clash e = let z : ◌≡◌ {A = ℕ} 0 1 = cc in omega arith

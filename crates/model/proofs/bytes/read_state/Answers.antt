@@ -4,7 +4,7 @@ use Rattle.model.proofs.bytes.read_state.Goals as goal
 
 pub loop-k-preserved : goal.loop-k-preserved
 loop-k-preserved c =
-    reading_more c.args.bytes.now c.loop-k.k c.loop-k.units _ c.requires c.loop-k-test.true c.loop-k.invariant c.from-bytes.ensures.is c.from-bytes.ensures.back
+    reading_more c.args.bytes.now c.loop-k.k c.loop-k.units _ c.requires c.loop-k-test.true c.loop-k.invariant c.from_bytes.ensures.is c.from_bytes.ensures.back
 
 pub returns : goal.returns
 returns c =

@@ -1,10 +1,10 @@
 use Rattle.std.proofs.Common.{ap}
 use Rattle.std.proofs.lemmas.Slice.Eq.{slice_eq-Decides}
 use Rattle.model.specs.declared.state.State.{State}
+use Rattle.model.proofs.Deciding.{decides_eq}
 use Rattle.model.proofs.sameness.StateSame.same.Goals as goal
-use Rattle.std.proofs.lemmas.Bool.Decides.{Decides-eqb}
 
 pub returns : goal.returns
 returns c =
-    let d = slice_eq-Decides Decides-eqb _ _ _ c.eq.ensures in
+    let d = slice_eq-Decides decides_eq _ _ _ c.eq.ensures in
     (λ e. ap (λ us. record { units = us }) (d.0 e), λ e. d.1 (ap (λ s. s.units) e))

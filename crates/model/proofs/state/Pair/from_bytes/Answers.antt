@@ -6,6 +6,6 @@ pub returns : goal.returns
 returns c =
     let n : length c.args.bytes ≡ 48 = search rules in
     record {
-      is = pair_read c.args.bytes _ _ n c.read-state.ensures.is c.read-state-2.ensures.is;
-      back = pair_back c.args.bytes _ _ n c.read-state.ensures.back c.read-state-2.ensures.back;
+      is = pair_read c.args.bytes _ _ n c.read_state.ensures.is c.read_state-2.ensures.is;
+      back = pair_back c.args.bytes _ _ n c.read_state.ensures.back c.read_state-2.ensures.back;
     }

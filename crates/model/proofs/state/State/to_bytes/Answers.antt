@@ -6,8 +6,8 @@ use Rattle.model.proofs.state.State.to_bytes.Goals as goal
 pub loop-k-preserved : goal.loop-k-preserved
 loop-k-preserved c =
     let n : length c.args.self.now.units ≡ 6 = search rules in
-    let e = c.copy-from-slice.ensures.after in
-    writing_more c.args.self.now.units c.loop-k.k c.loop-k.bytes _ _ n c.loop-k-test.true (omega arith) c.loop-k.invariant (e ∙ c.to-bytes.ensures.is) (ap unit_of e ∙ c.to-bytes.ensures.back)
+    let e = c.copy_from_slice.ensures.after in
+    writing_more c.args.self.now.units c.loop-k.k c.loop-k.bytes _ _ n c.loop-k-test.true (omega arith) c.loop-k.invariant (e ∙ c.to_bytes.ensures.is) (ap unit_of e ∙ c.to_bytes.ensures.back)
 
 pub returns : goal.returns
 returns c =
