@@ -5,5 +5,5 @@ use Rattle.sheet.proofs.states.state_at.Goals as goal
 
 pub returns : goal.returns
 returns c =
-    let e = c.from-bytes.ensures.is in
+    let e = c.from_bytes.ensures.is in
     record { is = e; lawful = ap sheet_lawful e ∙ lawful_at c.args.number; number = ap number_of e ∙ number_at c.args.number }

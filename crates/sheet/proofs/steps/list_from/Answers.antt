@@ -4,7 +4,7 @@ use Rattle.lists.proofs.Kept.{push_all}
 use Rattle.sheet.specs.Meaning.{listed_row, rows_from}
 use Rattle.sheet.specs.Stepping.{list_row, list_no_row}
 use Rattle.sheet.proofs.steps.list_from.Goals as goal
-use Rattle.sheet.proofs.steps.list_from.Goals.{then-row-number+in-ok-push, else-row-number}
+use Rattle.sheet.proofs.steps.list_from.Goals.{then-row-number+in_ok-push, else-row-number}
 
 pub loop-row-preserved : goal.loop-row-preserved
 loop-row-preserved c =
@@ -13,7 +13,7 @@ loop-row-preserved c =
     let hi = c.args.range.now.hi in
     let v = to_z w8 (of_z w8 c.args.value) in
     elim c.if-row-number.branch [
-      | then-row-number+in-ok-push w ↦ ap vec_items w.steps-is ∙ list_row rows c.args.number c.loop-row.row-index _ c.loop-row-test.true lo hi v v refl (vec_items c.loop-row.steps) c.loop-row.invariant (vec_items w.push.new.self) w.listed.result w.if-row-number.true w.listed.ensures w.in-ok-push.ensures.items
+      | then-row-number+in_ok-push w ↦ ap vec_items w.steps-is ∙ list_row rows c.args.number c.loop-row.row-index _ c.loop-row-test.true lo hi v v refl (vec_items c.loop-row.steps) c.loop-row.invariant (vec_items w.push.new.self) w.listed.result w.if-row-number.true w.listed.ensures w.in_ok-push.ensures.items
       | else-row-number w ↦ ap vec_items w.steps-is ∙ list_no_row rows c.args.number c.loop-row.row-index _ c.loop-row-test.true lo hi v v refl (vec_items c.loop-row.steps) c.loop-row.invariant w.if-row-number.false
     ]
 

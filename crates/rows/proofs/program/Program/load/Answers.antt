@@ -5,14 +5,14 @@ use Rattle.rows.specs.declared.row.Row.{Row}
 use Rattle.rows.proofs.Kept.{rows_kept, rows_few}
 use Rattle.rows.proofs.program.Program.load.Goals as goal
 
-pub invariant-of-result : goal.invariant-of-result
-invariant-of-result c =
+pub invariant_of-result : goal.invariant_of-result
+invariant_of-result c =
     let lo = c.args.range.lo in
     let hi = c.args.range.hi in
     let bytes = c.args.bytes.now in
-    let loads = c.in-ok-rows.ensures.loads in
-    let answers = c.in-ok-rows.ensures.answers 6 7 in
-    let few : length (vec_items c.in-ok-rows.rows) ≤ 64 = subst (λ (rs : List Row). length rs ≤ 64) (sym loads) (rows_few lo hi bytes answers) in (
+    let loads = c.in_ok-rows.ensures.loads in
+    let answers = c.in_ok-rows.ensures.answers 6 7 in
+    let few : length (vec_items c.in_ok-rows.rows) ≤ 64 = subst (λ (rs : List Row). length rs ≤ 64) (sym loads) (rows_few lo hi bytes answers) in (
       search rules,
       (subst (λ (rs : List Row). every (row_in_range lo hi) rs ≡ true) (sym loads) (rows_kept lo hi bytes), tt),
     )

@@ -16,8 +16,8 @@ returns-then-self-sets c =
 
 pub returns-in-Joined : goal.returns-in-Joined
 returns-in-Joined c =
-    c.is-linked-shared.ensures.is ∙ ap (λ (k : LinkKind). requires k (linked (get_or c.args.sets.now c.args.self.now.one no_groups) (get_or c.args.sets.now c.args.self.now.other no_groups))) (sym c.in-Joined.is) ∙ met_there c.args.sets.now c.args.self.now no_groups c.if-self-sets.false c.if-self-sets-2.false
+    c.is_linked-shared.ensures.is ∙ ap (λ (k : LinkKind). requires k (linked (get_or c.args.sets.now c.args.self.now.one no_groups) (get_or c.args.sets.now c.args.self.now.other no_groups))) (sym c.in-Joined.is) ∙ met_there c.args.sets.now c.args.self.now no_groups c.if-self-sets.false c.if-self-sets-2.false
 
 pub returns-in-Apart : goal.returns-in-Apart
 returns-in-Apart c =
-    ap not c.is-linked-shared.ensures.is ∙ ap (λ (k : LinkKind). requires k (linked (get_or c.args.sets.now c.args.self.now.one no_groups) (get_or c.args.sets.now c.args.self.now.other no_groups))) (sym c.in-Apart.is) ∙ met_there c.args.sets.now c.args.self.now no_groups c.if-self-sets.false c.if-self-sets-2.false
+    ap not c.is_linked-shared.ensures.is ∙ ap (λ (k : LinkKind). requires k (linked (get_or c.args.sets.now c.args.self.now.one no_groups) (get_or c.args.sets.now c.args.self.now.other no_groups))) (sym c.in-Apart.is) ∙ met_there c.args.sets.now c.args.self.now no_groups c.if-self-sets.false c.if-self-sets-2.false

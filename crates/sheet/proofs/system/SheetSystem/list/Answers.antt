@@ -5,7 +5,7 @@ use Rattle.sheet.specs.States.{number_of}
 use Rattle.sheet.specs.Meaning.{step_of, rows_from}
 use Rattle.sheet.proofs.system.SheetSystem.list.Goals as goal
 
-pub returns-then-is-lawful : goal.returns-then-is-lawful
-returns-then-is-lawful c =
+pub returns-then-is_lawful : goal.returns-then-is_lawful
+returns-then-is_lawful c =
     let rows = rows_from (number_of c.args.state.now) (vec_items c.args.self.now.rows) in
-    list_ways step_of rows vec_items c.list-rows.result c.args.self.now.range.lo c.args.self.now.range.hi c.args.value _ _ (to_z-of_z w8 c.args.value c.ranges.value) c.if-is-lawful.ensures.is c.list-rows.ensures
+    list_ways step_of rows vec_items c.list_rows.result c.args.self.now.range.lo c.args.self.now.range.hi c.args.value _ _ (to_z-of_z w8 c.args.value c.ranges.value) c.if-is_lawful.ensures.is c.list_rows.ensures
