@@ -5,16 +5,16 @@ use Rattle.judge.specs.Comparing.{comparing}
 use Rattle.judge.proofs.Exactly.{pair_refused, pair_passed, all_passed}
 use Rattle.judge.proofs.verdict.judge.Goals as goal
 
-pub returns-in-err-judge-pair : goal.returns-in-err-judge-pair
-returns-in-err-judge-pair g c =
+pub returns-in_err-judge_pair : goal.returns-in_err-judge_pair
+returns-in_err-judge_pair g c =
     let x = comparing (g.L.System.means c.args.left.now) (g.R.System.means c.args.right.now) c.args.relation.now in
-    let e = err_from_is_err_and c.from-residual.result c.from-residual.ensures.1 in
-    pair_refused x c.loop-k.k _ (slice_get-get_or c.args.relation.now c.loop-k.k _ c.loop-k-test.true) c.loop-k.invariant c.from-residual.result c.in-err-judge-pair.field-0.0 (rw e.2 at e.1) c.in-err-judge-pair.ensures
+    let e = err_from_is_err_and c.from_residual.result c.from_residual.ensures.1 in
+    pair_refused x c.loop-k.k _ (slice_get-get_or c.args.relation.now c.loop-k.k _ c.loop-k-test.true) c.loop-k.invariant c.from_residual.result c.in_err-judge_pair.field-0.0 (rw e.2 at e.1) c.in_err-judge_pair.ensures
 
 pub loop-k-preserved : goal.loop-k-preserved
 loop-k-preserved g c =
     let x = comparing (g.L.System.means c.args.left.now) (g.R.System.means c.args.right.now) c.args.relation.now in
-    pair_passed x c.loop-k.k _ (slice_get-get_or c.args.relation.now c.loop-k.k _ c.loop-k-test.true) c.loop-k.invariant c.in-ok-judge-pair.ensures
+    pair_passed x c.loop-k.k _ (slice_get-get_or c.args.relation.now c.loop-k.k _ c.loop-k-test.true) c.loop-k.invariant c.in_ok-judge_pair.ensures
 
 pub returns : goal.returns
 returns g c =

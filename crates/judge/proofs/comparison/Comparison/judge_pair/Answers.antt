@@ -8,12 +8,12 @@ returns-in-Some g c =
     let x = meant g.L.System.means g.R.System.means c.args.self.now in
     pair_left x c.requires c.args.k c.args.pair.now (search rules) (search rules) (search rules) c.in-Some.step c.in-Some.ensures
 
-pub returns-in-Some-first-without-reply : goal.returns-in-Some-first-without-reply
-returns-in-Some-first-without-reply g c =
+pub returns-in-Some-first_without_reply : goal.returns-in-Some-first_without_reply
+returns-in-Some-first_without_reply g c =
     let x = meant g.L.System.means g.R.System.means c.args.self.now in
-    pair_right x c.requires c.args.k c.args.pair.now (search rules) (search rules) (search rules) c.in-Some-first-without-reply.step c.in-default.ensures c.in-Some-first-without-reply.ensures
+    pair_right x c.requires c.args.k c.args.pair.now (search rules) (search rules) (search rules) c.in-Some-first_without_reply.step c.in_default.ensures c.in-Some-first_without_reply.ensures
 
 pub returns : goal.returns
 returns g c =
     let x = meant g.L.System.means g.R.System.means c.args.self.now in
-    pair_none x c.requires c.args.k c.args.pair.now (search rules) (search rules) (search rules) c.in-default.ensures c.in-default-first-without-reply.ensures
+    pair_none x c.requires c.args.k c.args.pair.now (search rules) (search rules) (search rules) c.in_default.ensures c.in_default-first_without_reply.ensures

@@ -12,7 +12,8 @@ invariant_of-result c =
     let bytes = c.args.bytes.now in
     let loads = c.in_ok-rows.ensures.loads in
     let answers = c.in_ok-rows.ensures.answers 6 7 in
-    let few : length (vec_items c.in_ok-rows.rows) ≤ 64 = subst (λ (rs : List Row). length rs ≤ 64) (sym loads) (rows_few lo hi bytes answers) in (
-      search rules,
-      (subst (λ (rs : List Row). every (row_in_range lo hi) rs ≡ true) (sym loads) (rows_kept lo hi bytes), tt),
-    )
+    let few : length (vec_items c.in_ok-rows.rows) ≤ 64 = subst (λ (rs : List Row). length rs ≤ 64) (sym loads) (rows_few lo hi bytes answers) in
+    record {
+      few = search rules;
+      kept = subst (λ (rs : List Row). every (row_in_range lo hi) rs ≡ true) (sym loads) (rows_kept lo hi bytes);
+    }
