@@ -11,7 +11,7 @@ abbrev of_units : List UnitState → State
 of_units us = record { units = us }
 
 pub loop-slot-preserved : goal.loop-slot-preserved
-loop-slot-preserved c = filling_more (λ j. cond (eqb j c.args.unit) (on_set (unit_at c.args.state.now j) c.args.set) (unit_at c.args.state.now j)) 6 c.loop-slot.slot zero_unit c.slot-moved.result c.loop-slot.units c.loop-slot.invariant c.loop-slot-test.true c.slot-moved.ensures
+loop-slot-preserved c = filling_more (λ j. cond (eqb j c.args.unit) (on_set (unit_at c.args.state.now j) c.args.set) (unit_at c.args.state.now j)) 6 c.loop-slot.slot zero_unit c.slot_moved.result c.loop-slot.units c.loop-slot.invariant c.loop-slot-test.true c.slot_moved.ensures
 
 pub returns : goal.returns
 returns c = ap of_units (filling_all (λ j. cond (eqb j c.args.unit) (on_set (unit_at c.args.state.now j) c.args.set) (unit_at c.args.state.now j)) 6 c.loop-slot.slot zero_unit c.loop-slot.units c.loop-slot.invariant c.loop-slot-test.false)

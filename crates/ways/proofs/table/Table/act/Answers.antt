@@ -6,7 +6,7 @@ use Rattle.ways.proofs.table.Table.act.Goals as goal
 
 pub returns-then-left-count : goal.returns-then-left-count
 returns-then-left-count c =
-    seek_here (acts_of (net_of c.args.self.now) c.args.state.now) _ _ _ _ c.loop-unit.invariant _ c.loop-unit-test.true (subst (λ n. c.loop-unit.left < n) c.count-of-count.ensures.is c.if-left-count.true) c.act-of.ensures
+    seek_here (acts_of (net_of c.args.self.now) c.args.state.now) _ _ _ _ c.loop-unit.invariant _ c.loop-unit-test.true (subst (λ n. c.loop-unit.left < n) c.count_of-count.ensures.is c.if-left-count.true) c.act_of.ensures
 
 pub loop-unit-preserved : goal.loop-unit-preserved
-loop-unit-preserved c = seek_more (acts_of (net_of c.args.self.now) c.args.state.now) _ _ _ _ c.loop-unit.invariant _ c.loop-unit-test.true c.count-of-count.ensures.is c.if-left-count.false
+loop-unit-preserved c = seek_more (acts_of (net_of c.args.self.now) c.args.state.now) _ _ _ _ c.loop-unit.invariant _ c.loop-unit-test.true c.count_of-count.ensures.is c.if-left-count.false

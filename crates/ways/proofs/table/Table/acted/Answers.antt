@@ -12,7 +12,7 @@ abbrev of_units : List UnitState → State
 of_units us = record { units = us }
 
 pub loop-slot-preserved : goal.loop-slot-preserved
-loop-slot-preserved c = filling_more (slot_after (net_of c.args.self.now) c.args.state.now c.args.unit c.args.row c.args.choices.now (to_z w8 (of_z w8 c.args.value))) 6 c.loop-slot.slot zero_unit c.slot-after.result c.loop-slot.units c.loop-slot.invariant c.loop-slot-test.true c.slot-after.ensures
+loop-slot-preserved c = filling_more (slot_after (net_of c.args.self.now) c.args.state.now c.args.unit c.args.row c.args.choices.now (to_z w8 (of_z w8 c.args.value))) 6 c.loop-slot.slot zero_unit c.slot_after.result c.loop-slot.units c.loop-slot.invariant c.loop-slot-test.true c.slot_after.ensures
 
 pub returns : goal.returns
 returns c =

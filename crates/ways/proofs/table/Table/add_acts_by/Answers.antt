@@ -5,9 +5,9 @@ use Rattle.ways.specs.Ways.{acts_by}
 use Rattle.ways.proofs.table.Table.add_acts_by.Goals as goal
 
 pub loop-number-preserved : goal.loop-number-preserved
-loop-number-preserved c = copying_more (acts_by (net_of c.args.self.now) c.args.state.now c.args.unit c.args.row) _ _ _ c.loop-number.invariant _ _ c.act-by.ensures c.in-ok-push.ensures.items
+loop-number-preserved c = copying_more (acts_by (net_of c.args.self.now) c.args.state.now c.args.unit c.args.row) _ _ _ c.loop-number.invariant _ _ c.act_by.ensures c.in_ok-push.ensures.items
 
 pub returns : goal.returns
 returns c =
     copying_all (acts_by (net_of c.args.self.now) c.args.state.now c.args.unit c.args.row) _ _ _ c.loop-number.invariant
-    (subst (λ n. n ≤ c.loop-number.number) c.count-by-number-end.ensures.is c.loop-number-test.false)
+    (subst (λ n. n ≤ c.loop-number.number) c.count_by-number-end.ensures.is c.loop-number-test.false)

@@ -6,16 +6,16 @@ use Rattle.ways.specs.declared.way.Choice.TheVariants.{Stay}
 use Rattle.ways.proofs.table.Table.combination.Goals as goal
 
 pub loop-unit-init : goal.loop-unit-init
-loop-unit-init c = record { size_is = c.combination-count-size.ensures.is; low = subst (λ n. c.args.number < n) (sym c.combination-count-size.ensures.is) c.requires; long = refl; same = refl }
+loop-unit-init c = record { size_is = c.combination_count-size.ensures.is; low = subst (λ n. c.args.number < n) (sym c.combination_count-size.ensures.is) c.requires; long = refl; same = refl }
 
-pub nonzero-div-rest : goal.nonzero-div-rest
-nonzero-div-rest c = picking_some Stay (choices (net_of c.args.self.now) c.args.state.now c.args.sender) 6 _ _ _ _ _ _ c.loop-unit.invariant c.loop-unit-test.true c.choice-count-size.ensures.is c.choice-count-size.ensures.some
+pub nonzero_div-rest : goal.nonzero_div-rest
+nonzero_div-rest c = picking_some Stay (choices (net_of c.args.self.now) c.args.state.now c.args.sender) 6 _ _ _ _ _ _ c.loop-unit.invariant c.loop-unit-test.true c.choice_count-size.ensures.is c.choice_count-size.ensures.some
 
-pub nonzero-rem-rest : goal.nonzero-rem-rest
-nonzero-rem-rest c = picking_some Stay (choices (net_of c.args.self.now) c.args.state.now c.args.sender) 6 _ _ _ _ _ _ c.loop-unit.invariant c.loop-unit-test.true c.choice-count-size.ensures.is c.choice-count-size.ensures.some
+pub nonzero_rem-rest : goal.nonzero_rem-rest
+nonzero_rem-rest c = picking_some Stay (choices (net_of c.args.self.now) c.args.state.now c.args.sender) 6 _ _ _ _ _ _ c.loop-unit.invariant c.loop-unit-test.true c.choice_count-size.ensures.is c.choice_count-size.ensures.some
 
 pub loop-unit-preserved : goal.loop-unit-preserved
-loop-unit-preserved c = picking_more Stay (choices (net_of c.args.self.now) c.args.state.now c.args.sender) 6 _ _ _ _ _ _ _ c.loop-unit.invariant c.loop-unit-test.true c.choice-count-size.ensures.is c.choice-count-size.ensures.some c.choice.ensures
+loop-unit-preserved c = picking_more Stay (choices (net_of c.args.self.now) c.args.state.now c.args.sender) 6 _ _ _ _ _ _ _ c.loop-unit.invariant c.loop-unit-test.true c.choice_count-size.ensures.is c.choice_count-size.ensures.some c.choice.ensures
 
 pub returns : goal.returns
 returns c = picking_all Stay (choices (net_of c.args.self.now) c.args.state.now c.args.sender) 6 _ _ _ _ 0 _ c.loop-unit.invariant c.loop-unit-test.false

@@ -7,7 +7,7 @@ use Rattle.ways.proofs.table.Table.list_of.Goals as goal
 
 pub loop-i-preserved : goal.loop-i-preserved
 loop-i-preserved c =
-    mapping_more (listed_of (net_of c.args.self.now) c.args.state.now (to_z w8 (of_z w8 c.args.value))) c.args.ways.now c.loop-i.i _ c.loop-i.invariant _ _ _ c.loop-i-test.true c.listed.ensures c.in-ok-push.ensures.items
+    mapping_more (listed_of (net_of c.args.self.now) c.args.state.now (to_z w8 (of_z w8 c.args.value))) c.args.ways.now c.loop-i.i _ c.loop-i.invariant _ _ _ c.loop-i-test.true c.listed.ensures c.in_ok-push.ensures.items
 
 pub returns : goal.returns
 returns c =
