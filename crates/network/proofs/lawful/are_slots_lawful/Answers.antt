@@ -6,14 +6,14 @@ use Rattle.network.specs.Meanings.{slot_lawful}
 use Rattle.network.proofs.Slots.{nth_slot}
 use Rattle.network.proofs.lawful.are_slots_lawful.Goals as goal
 
-pub returns-then-not-is-slot-lawful : goal.returns-then-not-is-slot-lawful
-returns-then-not-is-slot-lawful c =
-    sym (every_fails (λ _. slot_lawful (net_of c.args.table.now) c.args.state.now) (range_with_len 0 6) c.loop-slot.slot c.loop-slot.slot (nth_slot 6 _ c.loop-slot-test.true) (sym c.is-slot-lawful.ensures ∙ c.if-not-is-slot-lawful.true))
+pub returns-then-not-is_slot_lawful : goal.returns-then-not-is_slot_lawful
+returns-then-not-is_slot_lawful c =
+    sym (every_fails (λ _. slot_lawful (net_of c.args.table.now) c.args.state.now) (range_with_len 0 6) c.loop-slot.slot c.loop-slot.slot (nth_slot 6 _ c.loop-slot-test.true) (sym c.is_slot_lawful.ensures ∙ c.if-not-is_slot_lawful.true))
     ∙ c.loop-slot.invariant
 
 pub loop-slot-preserved : goal.loop-slot-preserved
 loop-slot-preserved c =
-    every_more (λ _. slot_lawful (net_of c.args.table.now) c.args.state.now) (range_with_len 0 6) c.loop-slot.slot c.loop-slot.slot (nth_slot 6 _ c.loop-slot-test.true) (sym c.is-slot-lawful.ensures ∙ c.if-not-is-slot-lawful.false)
+    every_more (λ _. slot_lawful (net_of c.args.table.now) c.args.state.now) (range_with_len 0 6) c.loop-slot.slot c.loop-slot.slot (nth_slot 6 _ c.loop-slot-test.true) (sym c.is_slot_lawful.ensures ∙ c.if-not-is_slot_lawful.false)
     ∙ c.loop-slot.invariant
 
 pub returns : goal.returns

@@ -16,4 +16,4 @@ loop-slot-preserved c =
 pub returns : goal.returns
 returns c =
     let e : c.loop-slot.slot ≡ c.args.table.now.units = omega (arith, c.loop-slot.auto.slot-end, c.loop-slot-test.false) in
-    c.part-within.ensures.is ∙ ap (part c.args.table.now.free) (c.loop-slot.invariant ∙ ap (λ k. fold (λ g (x : UnitState). union_of g x.groups) (set_of 0) (take k c.args.state.now.units)) e)
+    c.part_within.ensures.is ∙ ap (part c.args.table.now.free) (c.loop-slot.invariant ∙ ap (λ k. fold (λ g (x : UnitState). union_of g x.groups) (set_of 0) (take k c.args.state.now.units)) e)

@@ -6,7 +6,7 @@ use Rattle.network.proofs.network.Network.movement.Goals as goal
 
 pub returns-then-left-count : goal.returns-then-left-count
 returns-then-left-count g c =
-    seek_here (movements_of (net_of c.args.self.now.table) (g.R.Rule.allowed c.args.self.now.rule) c.args.state.now) _ _ _ _ c.loop-unit.invariant _ c.loop-unit-test.true (subst (λ n. c.loop-unit.left < n) c.movement-count-of-count.ensures.is c.if-left-count.true) c.movement-of.ensures
+    seek_here (movements_of (net_of c.args.self.now.table) (g.R.Rule.allowed c.args.self.now.rule) c.args.state.now) _ _ _ _ c.loop-unit.invariant _ c.loop-unit-test.true (subst (λ n. c.loop-unit.left < n) c.movement_count_of-count.ensures.is c.if-left-count.true) c.movement_of.ensures
 
 pub loop-unit-preserved : goal.loop-unit-preserved
-loop-unit-preserved g c = seek_more (movements_of (net_of c.args.self.now.table) (g.R.Rule.allowed c.args.self.now.rule) c.args.state.now) _ _ _ _ c.loop-unit.invariant _ c.loop-unit-test.true c.movement-count-of-count.ensures.is c.if-left-count.false
+loop-unit-preserved g c = seek_more (movements_of (net_of c.args.self.now.table) (g.R.Rule.allowed c.args.self.now.rule) c.args.state.now) _ _ _ _ c.loop-unit.invariant _ c.loop-unit-test.true c.movement_count_of-count.ensures.is c.if-left-count.false

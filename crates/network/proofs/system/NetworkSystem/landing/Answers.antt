@@ -12,7 +12,7 @@ returns-then-not-holds g c =
 
 pub returns-in-Some : goal.returns-in-Some
 returns-in-Some g c =
-    land_some (step_of (net_of c.args.self.now.table) c.args.state.now) (lawful_ways (net_of c.args.self.now.table) (g.R.Rule.allowed c.args.self.now.rule) c.args.state.now) c.args.step c.args.self.now.table.program.range.lo c.args.self.now.table.program.range.hi c.args.value _ (to_z-of_z w8 c.args.value c.ranges.value) c.holds.result c.holds.ensures c.in-Some.way c.landing-of.result c.if-not-holds.false c.in-Some.ensures c.landing-of.ensures
+    land_some (step_of (net_of c.args.self.now.table) c.args.state.now) (lawful_ways (net_of c.args.self.now.table) (g.R.Rule.allowed c.args.self.now.rule) c.args.state.now) c.args.step c.args.self.now.table.program.range.lo c.args.self.now.table.program.range.hi c.args.value _ (to_z-of_z w8 c.args.value c.ranges.value) c.holds.result c.holds.ensures c.in-Some.way c.landing_of.result c.if-not-holds.false c.in-Some.ensures c.landing_of.ensures
 
 pub returns-in-None : goal.returns-in-None
 returns-in-None g c =

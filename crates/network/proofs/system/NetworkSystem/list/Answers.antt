@@ -7,9 +7,9 @@ use Rattle.network.proofs.system.NetworkSystem.list.Goals as goal
 
 pub returns : goal.returns
 returns g c =
-    relist (net_of c.args.self.now.table) c.args.state.now c.args.value vec_items c.list-of.result _ c.deref.result.now (vec_items c.in-ok-ways.ways)
+    relist (net_of c.args.self.now.table) c.args.state.now c.args.value vec_items c.list_of.result _ c.deref.result.now (vec_items c.in_ok-ways.ways)
     (lawful_ways (net_of c.args.self.now.table) (g.R.Rule.allowed c.args.self.now.rule) c.args.state.now)
     (to_z-of_z w8 c.args.value c.ranges.value)
     c.deref.ensures.value
-    c.in-ok-ways.ensures
-    c.list-of.ensures
+    c.in_ok-ways.ensures
+    c.list_of.ensures
