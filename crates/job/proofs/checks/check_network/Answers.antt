@@ -10,11 +10,11 @@ use Rattle.frames.specs.declared.payloads.Kind.TheVariants.{Row}
 use Rattle.job.proofs.Tables.{network_refusal_lem}
 use Rattle.job.proofs.checks.check_network.Goals as goal
 
-pub returns-in-err-check : goal.returns-in-err-check
-returns-in-err-check c =
-    let y = err_from_is_err_and c.from-residual.result c.from-residual.ensures.1 in
-    let t = c.in-err-check.ensures in
-    let e = ap network_refusal y.2 ∙ network_refusal_lem c.in-err-check.field-0.0 in
+pub returns-in_err-check : goal.returns-in_err-check
+returns-in_err-check c =
+    let y = err_from_is_err_and c.from_residual.result c.from_residual.ensures.1 in
+    let t = c.in_err-check.ensures in
+    let e = ap network_refusal y.2 ∙ network_refusal_lem c.in_err-check.field-0.0 in
     let b = c.in-Some.ensures _ c.payloads-rows.ensures in
     let units : None ≡ first_no (units_asked c.args.units) = search rules in
     record {

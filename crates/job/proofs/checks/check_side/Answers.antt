@@ -13,10 +13,10 @@ returns c =
     let bytes = c.args.bytes.now in
     let links = side_bytes Link side bytes in
     let rows = side_bytes Row side bytes in
-    let t = c.check-tables.ensures in
+    let t = c.check_tables.ensures in
     let told = t.refuses ∙ ap (λ (s : Setting). first_no (tables_asked s links rows)) c.setting.ensures in
     record {
-      certain = rw c.on-side.ensures (side_certain side c.check-tables.result t.certain);
-      refuses = rw c.on-side.ensures (side_refuses side c.check-tables.result (tables_asked (setting_of side bytes) links rows) told);
-      checks = rw c.on-side.ensures (side_made side c.check-tables.result (Holds (setting_of side bytes)) (rw c.setting.ensures at t.checks));
+      certain = rw c.on_side.ensures (side_certain side c.check_tables.result t.certain);
+      refuses = rw c.on_side.ensures (side_refuses side c.check_tables.result (tables_asked (setting_of side bytes) links rows) told);
+      checks = rw c.on_side.ensures (side_made side c.check_tables.result (Holds (setting_of side bytes)) (rw c.setting.ensures at t.checks));
     }

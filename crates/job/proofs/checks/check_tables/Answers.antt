@@ -8,13 +8,13 @@ use Rattle.job.specs.Faults.{side_refusal}
 use Rattle.job.proofs.Tables.{links_refused, tuner_refused, network_asked_lem}
 use Rattle.job.proofs.checks.check_tables.Goals as goal
 
-pub returns-in-err-check-links : goal.returns-in-err-check-links
-returns-in-err-check-links c =
+pub returns-in_err-check_links : goal.returns-in_err-check_links
+returns-in_err-check_links c =
     let links = side_bytes Link c.args.side c.args.bytes.now in
     let rows = side_bytes Row c.args.side c.args.bytes.now in
     let range : None ≡ first_no (range_asked c.args.setting.now.lo c.args.setting.now.hi) = search rules in
-    let y = err_from_is_err_and c.from-residual-in-err-check-links.result c.from-residual-in-err-check-links.ensures.1 in
-    let t = c.in-err-check-links.ensures in
+    let y = err_from_is_err_and c.from_residual-in_err-check_links.result c.from_residual-in_err-check_links.ensures.1 in
+    let t = c.in_err-check_links.ensures in
     let e = ap side_refusal y.2 in
     record {
       certain = rw (y.1, e) t.certain;
@@ -22,33 +22,33 @@ returns-in-err-check-links c =
       checks = rw y.1 tt;
     }
 
-pub returns-in-err-tuner : goal.returns-in-err-tuner
-returns-in-err-tuner c =
+pub returns-in_err-tuner : goal.returns-in_err-tuner
+returns-in_err-tuner c =
     let links = side_bytes Link c.args.side c.args.bytes.now in
     let rows = side_bytes Row c.args.side c.args.bytes.now in
     let range : None ≡ first_no (range_asked c.args.setting.now.lo c.args.setting.now.hi) = search rules in
-    let y = err_from_is_err_and c.from-residual-in-err-tuner.result c.from-residual-in-err-tuner.ensures.1 in
-    let t = c.in-err-tuner.ensures in
+    let y = err_from_is_err_and c.from_residual-in_err-tuner.result c.from_residual-in_err-tuner.ensures.1 in
+    let t = c.in_err-tuner.ensures in
     let e = ap side_refusal y.2 in
     record {
       certain = rw (y.1, e) t.certain;
-      refuses = rw (y.1, e) (tuner_refused c.args.setting.now links rows _ range c.in-ok-check-links.ensures.refuses t.certain t.refuses);
+      refuses = rw (y.1, e) (tuner_refused c.args.setting.now links rows _ range c.in_ok-check_links.ensures.refuses t.certain t.refuses);
       checks = rw y.1 tt;
     }
 
-pub returns-in-err-check-network : goal.returns-in-err-check-network
-returns-in-err-check-network c =
+pub returns-in_err-check_network : goal.returns-in_err-check_network
+returns-in_err-check_network c =
     let links = side_bytes Link c.args.side c.args.bytes.now in
     let rows = side_bytes Row c.args.side c.args.bytes.now in
     let range : None ≡ first_no (range_asked c.args.setting.now.lo c.args.setting.now.hi) = search rules in
-    let lo : c.in-ok-range.range.lo ≡ c.args.setting.now.lo = search rules in
-    let hi : c.in-ok-range.range.hi ≡ c.args.setting.now.hi = search rules in
-    let y = err_from_is_err_and c.from-residual-in-err-check-network.result c.from-residual-in-err-check-network.ensures.1 in
-    let t = c.in-err-check-network.ensures in
+    let lo : c.in_ok-range.range.lo ≡ c.args.setting.now.lo = search rules in
+    let hi : c.in_ok-range.range.hi ≡ c.args.setting.now.hi = search rules in
+    let y = err_from_is_err_and c.from_residual-in_err-check_network.result c.from_residual-in_err-check_network.ensures.1 in
+    let t = c.in_err-check_network.ensures in
     let e = ap side_refusal y.2 in
     record {
       certain = rw (y.1, e) t.certain;
-      refuses = rw (y.1, e) (network_asked_lem c.args.setting.now links rows _ _ _ lo hi range c.in-ok-check-links.ensures.refuses c.in-ok-tuner.ensures.refuses t.refuses);
+      refuses = rw (y.1, e) (network_asked_lem c.args.setting.now links rows _ _ _ lo hi range c.in_ok-check_links.ensures.refuses c.in_ok-tuner.ensures.refuses t.refuses);
       checks = rw y.1 tt;
     }
 
@@ -57,10 +57,10 @@ returns c =
     let links = side_bytes Link c.args.side c.args.bytes.now in
     let rows = side_bytes Row c.args.side c.args.bytes.now in
     let range : None ≡ first_no (range_asked c.args.setting.now.lo c.args.setting.now.hi) = search rules in
-    let lo : c.in-ok-range.range.lo ≡ c.args.setting.now.lo = search rules in
-    let hi : c.in-ok-range.range.hi ≡ c.args.setting.now.hi = search rules in
+    let lo : c.in_ok-range.range.lo ≡ c.args.setting.now.lo = search rules in
+    let hi : c.in_ok-range.range.hi ≡ c.args.setting.now.hi = search rules in
     record {
       certain = tt;
-      refuses = network_asked_lem c.args.setting.now links rows None _ _ lo hi range c.in-ok-check-links.ensures.refuses c.in-ok-tuner.ensures.refuses c.in-ok-check-network.ensures.refuses;
+      refuses = network_asked_lem c.args.setting.now links rows None _ _ lo hi range c.in_ok-check_links.ensures.refuses c.in_ok-tuner.ensures.refuses c.in_ok-check_network.ensures.refuses;
       checks = record { lo = lo; hi = hi; limit = search rules; free = refl; units = refl };
     }

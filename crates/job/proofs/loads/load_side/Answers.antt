@@ -5,8 +5,8 @@ use Rattle.job.specs.Sides.{tables_asked, loaded_meaning, side_meaning}
 use Rattle.job.proofs.OnSide.{side_memory, side_made, none_stated}
 use Rattle.job.proofs.loads.load_side.Goals as goal
 
-pub load-tables-requires : goal.load-tables-requires
-load-tables-requires c =
+pub load_tables-requires : goal.load_tables-requires
+load_tables-requires c =
     let side = c.args.side in
     let bytes = c.args.bytes.now in
     record {
@@ -19,6 +19,6 @@ returns c =
     let side = c.args.side in
     let bytes = c.args.bytes.now in
     record {
-      memory = rw c.on-side.ensures (side_memory side c.load-tables.result c.load-tables.ensures.memory);
-      means = rw c.on-side.ensures (side_made side c.load-tables.result (λ n. loaded_meaning n ≡ side_meaning side bytes) c.load-tables.ensures.means);
+      memory = rw c.on_side.ensures (side_memory side c.load_tables.result c.load_tables.ensures.memory);
+      means = rw c.on_side.ensures (side_made side c.load_tables.result (λ n. loaded_meaning n ≡ side_meaning side bytes) c.load_tables.ensures.means);
     }

@@ -3,64 +3,64 @@ use Rattle.std.proofs.lemmas.Result.{err_from_is_err_and}
 use Rattle.job.proofs.Layouts.{frames_refused, left_refused, right_asked}
 use Rattle.job.proofs.job.Job.load.Goals as goal
 
-pub returns-in-err-check : goal.returns-in-err-check
-returns-in-err-check c =
-    let y = err_from_is_err_and c.from-residual.result c.from-residual.ensures.1 in
+pub returns-in_err-check : goal.returns-in_err-check
+returns-in_err-check c =
+    let y = err_from_is_err_and c.from_residual.result c.from_residual.ensures.1 in
     record {
-      refuses = rw (y.1, y.2) (frames_refused c.args.bytes.now _ refl c.in-err-check.ensures);
+      refuses = rw (y.1, y.2) (frames_refused c.args.bytes.now _ refl c.in_err-check.ensures);
       loads = rw y.1 tt;
     }
 
-pub returns-in-err-left : goal.returns-in-err-left
-returns-in-err-left c =
-    let y = err_from_is_err_and c.from-residual-in-err-left.result c.from-residual-in-err-left.ensures.1 in
-    let t = c.in-err-left.ensures in
+pub returns-in_err-left : goal.returns-in_err-left
+returns-in_err-left c =
+    let y = err_from_is_err_and c.from_residual-in_err-left.result c.from_residual-in_err-left.ensures.1 in
+    let t = c.in_err-left.ensures in
     record {
-      refuses = rw (y.1, y.2) (left_refused c.args.bytes.now _ c.in-ok-check.ensures t.certain t.refuses);
+      refuses = rw (y.1, y.2) (left_refused c.args.bytes.now _ c.in_ok-check.ensures t.certain t.refuses);
       loads = rw y.1 tt;
     }
 
-pub returns-in-err-right : goal.returns-in-err-right
-returns-in-err-right c =
-    let y = err_from_is_err_and c.from-residual-in-err-right.result c.from-residual-in-err-right.ensures.1 in
+pub returns-in_err-right : goal.returns-in_err-right
+returns-in_err-right c =
+    let y = err_from_is_err_and c.from_residual-in_err-right.result c.from_residual-in_err-right.ensures.1 in
     record {
-      refuses = rw (y.1, y.2) (right_asked c.args.bytes.now _ c.in-ok-check.ensures c.in-ok-left.ensures.refuses c.in-err-right.ensures.refuses);
+      refuses = rw (y.1, y.2) (right_asked c.args.bytes.now _ c.in_ok-check.ensures c.in_ok-left.ensures.refuses c.in_err-right.ensures.refuses);
       loads = rw y.1 tt;
     }
 
-pub load-side-requires : goal.load-side-requires
-load-side-requires c = let t = c.in-ok-left.ensures in record { holds = t.checks; asked = t.refuses }
+pub load_side-requires : goal.load_side-requires
+load_side-requires c = let t = c.in_ok-left.ensures in record { holds = t.checks; asked = t.refuses }
 
-pub load-side-requires-2 : goal.load-side-requires-2
-load-side-requires-2 c = let t = c.in-ok-right.ensures in record { holds = t.checks; asked = t.refuses }
+pub load_side-requires-2 : goal.load_side-requires-2
+load_side-requires-2 c = let t = c.in_ok-right.ensures in record { holds = t.checks; asked = t.refuses }
 
-pub returns-in-err-load-side : goal.returns-in-err-load-side
-returns-in-err-load-side c =
-    let y = err_from_is_err_and c.from-residual-in-err-load-side.result c.from-residual-in-err-load-side.ensures.1 in
-    let none = right_asked c.args.bytes.now None c.in-ok-check.ensures c.in-ok-left.ensures.refuses c.in-ok-right.ensures.refuses in
-    record { refuses = rw (y.1, y.2) (c.in-err-load-side.ensures.memory ∙ none); loads = rw y.1 tt }
+pub returns-in_err-load_side : goal.returns-in_err-load_side
+returns-in_err-load_side c =
+    let y = err_from_is_err_and c.from_residual-in_err-load_side.result c.from_residual-in_err-load_side.ensures.1 in
+    let none = right_asked c.args.bytes.now None c.in_ok-check.ensures c.in_ok-left.ensures.refuses c.in_ok-right.ensures.refuses in
+    record { refuses = rw (y.1, y.2) (c.in_err-load_side.ensures.memory ∙ none); loads = rw y.1 tt }
 
-pub returns-in-err-load-side-2 : goal.returns-in-err-load-side-2
-returns-in-err-load-side-2 c =
-    let y = err_from_is_err_and c.from-residual-in-err-load-side-2.result c.from-residual-in-err-load-side-2.ensures.1 in
-    let none = right_asked c.args.bytes.now None c.in-ok-check.ensures c.in-ok-left.ensures.refuses c.in-ok-right.ensures.refuses in
-    record { refuses = rw (y.1, y.2) (c.in-err-load-side-2.ensures.memory ∙ none); loads = rw y.1 tt }
+pub returns-in_err-load_side-2 : goal.returns-in_err-load_side-2
+returns-in_err-load_side-2 c =
+    let y = err_from_is_err_and c.from_residual-in_err-load_side-2.result c.from_residual-in_err-load_side-2.ensures.1 in
+    let none = right_asked c.args.bytes.now None c.in_ok-check.ensures c.in_ok-left.ensures.refuses c.in_ok-right.ensures.refuses in
+    record { refuses = rw (y.1, y.2) (c.in_err-load_side-2.ensures.memory ∙ none); loads = rw y.1 tt }
 
-pub returns-in-err-relation : goal.returns-in-err-relation
-returns-in-err-relation c =
-    let y = err_from_is_err_and c.from-residual-in-err-relation.result c.from-residual-in-err-relation.ensures.1 in
+pub returns-in_err-relation : goal.returns-in_err-relation
+returns-in_err-relation c =
+    let y = err_from_is_err_and c.from_residual-in_err-relation.result c.from_residual-in_err-relation.ensures.1 in
     record {
-      refuses = rw (y.1, y.2) (right_asked c.args.bytes.now None c.in-ok-check.ensures c.in-ok-left.ensures.refuses c.in-ok-right.ensures.refuses);
+      refuses = rw (y.1, y.2) (right_asked c.args.bytes.now None c.in_ok-check.ensures c.in_ok-left.ensures.refuses c.in_ok-right.ensures.refuses);
       loads = rw y.1 tt;
     }
 
 pub returns : goal.returns
 returns c =
     record {
-      refuses = right_asked c.args.bytes.now None c.in-ok-check.ensures c.in-ok-left.ensures.refuses c.in-ok-right.ensures.refuses;
+      refuses = right_asked c.args.bytes.now None c.in_ok-check.ensures c.in_ok-left.ensures.refuses c.in_ok-right.ensures.refuses;
       loads = record {
-        left = c.in-ok-load-side.ensures.means;
-        right = c.in-ok-load-side-2.ensures.means;
-        relation = c.in-ok-relation.ensures;
+        left = c.in_ok-load_side.ensures.means;
+        right = c.in_ok-load_side-2.ensures.means;
+        relation = c.in_ok-relation.ensures;
       };
     }
