@@ -5,5 +5,5 @@ mod checks;
 pub mod fault;
 pub mod job;
 mod loads;
+pub mod outcome;
 mod sides;
-pub mod verdict;

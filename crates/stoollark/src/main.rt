@@ -2,7 +2,7 @@
 #![tactic(auto)]
 
 use input::fill;
-use job::verdict::{ENOUGH, verdict};
+use job::outcome::{ENOUGH, verdict};
 use std::io::Write;
 
 fn main(rt: HostRuntime) -> anyhow::Result<()> {

@@ -3,7 +3,7 @@ use Rattle.std.proofs.lemmas.Result.{err_from_is_err_and}
 use Rattle.job.specs.Faults.{job_refusal}
 use Rattle.job.specs.Verdicts.{Told}
 use Rattle.job.proofs.Judging.{told_first, judge_told, judge_passed, judge_counted}
-use Rattle.job.proofs.verdict.judged.Goals as goal
+use Rattle.job.proofs.outcome.judged.Goals as goal
 
 pub returns-in_err-job : goal.returns-in_err-job
 returns-in_err-job c =

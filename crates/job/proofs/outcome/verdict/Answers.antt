@@ -1,6 +1,6 @@
 use Rattle.job.specs.Verdicts.{Verdict}
 use Rattle.job.proofs.Pinned.{answer_verdict, start_verdict}
-use Rattle.job.proofs.verdict.verdict.Goals as goal
+use Rattle.job.proofs.outcome.verdict.Goals as goal
 
 pub returns : goal.returns
 returns c =
