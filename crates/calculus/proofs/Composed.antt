@@ -1,9 +1,9 @@
 -- The acts, by the rules of the calculus and by the lists. Assumes nothing.
-use Rattle.std.proofs.Common.{◌≡◌, ℕ, zero, suc, ◌+◌, ◌<◌, ◌≤◌, Bool, true, false, cond, not, ◌&&◌, ◌⊎◌, List, [], ◌∷◌, ◌++◌, map, length, get_or, set, ℤ, Some, None, sym, refl, ap, ◌∙◌, subst, inl, inr, arith}
+use Rattle.std.proofs.Common.{◌≡◌, ℕ, zero, suc, ◌+◌, ◌<◌, true, ◌⊎◌, List, [], ◌∷◌, map, length, set, ℤ, Some, sym, refl, ap, ◌∙◌, subst, inl, inr, arith}
 use Rattle.std.specs.List.{slice_get}
 use Rattle.model.specs.declared.unit_state.UnitState.{UnitState}
 use Rattle.rows.specs.declared.row.Operand.{Operand}
-use Rattle.rows.specs.declared.row.Action.TheVariants.{Silent, Broadcast as Send, Receive as Fill}
+use Rattle.rows.specs.declared.row.Action.TheVariants.{Broadcast as Send}
 use Rattle.rows.specs.declared.row.Row.{Row}
 use Rattle.lists.specs.Products.{product}
 use Rattle.rows.specs.Units.{reads, enabled, receivable, filled, advanced, taken}
@@ -13,8 +13,8 @@ use Rattle.ways.specs.Nets.{Net, row_at, idle}
 use Rattle.model.specs.GroupSets.{linked}
 use Rattle.model.specs.declared.group_set.GroupSet.{GroupSet}
 use Rattle.ways.specs.Landings.{chosen}
-use Rattle.lists.specs.Products.{In, head, tail}
-use Rattle.calculus.specs.Calculus.{NodeAction, out, inp, tau, NoOutput, Node, by_mcast, Beside, Parallel, by_alone, by_send, by_par, by_com}
+use Rattle.lists.specs.Products.{In, head}
+use Rattle.calculus.specs.Calculus.{NodeAction, out, NoOutput, Node, by_mcast, Beside, Parallel, by_alone, by_send, by_par, by_com}
 use Rattle.lists.proofs.Members.{in_product, product_in}
 use Rattle.calculus.proofs.Derived.{opts, optlist, landlist, some_row, the_row, recv, recv_inv, Listens, opts_in, in_opts, beside_from, beside_to}
 

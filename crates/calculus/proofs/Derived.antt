@@ -1,16 +1,15 @@
 -- The choices of the units, by the rules of the calculus and by the lists. Assumes nothing.
-use Rattle.std.proofs.Common.{◌≡◌, ℕ, zero, suc, ◌+◌, ◌<◌, ◌≤◌, Bool, true, false, cond, not, ◌&&◌, eqb, ltb, ◌⊎◌, List, [], ◌∷◌, ◌++◌, map, length, get_or, set, ℤ, Some, None, filter, sym, refl, ap, ◌∙◌, subst, inl, inr, arith}
+use Rattle.std.proofs.Common.{◌≡◌, ℕ, zero, suc, ◌<◌, true, cond, not, ◌&&◌, eqb, ltb, ◌⊎◌, List, [], ◌∷◌, map, length, get_or, ℤ, Some, filter, sym, refl, ap, ◌∙◌, subst, inl, inr, arith}
 use Rattle.std.specs.List.{range_with_len, slice_get}
 use Rattle.std.proofs.lemmas.Option.{slice_get-get_or}
-use Rattle.std.proofs.lemmas.Bool.{and_parts, and_from, eqb-true, eqb-false, ne_eqb, eq-eqb, ltb-true, lt-ltb, not-true, not_from_false, true≢false, false≢true}
+use Rattle.std.proofs.lemmas.Bool.{and_parts, and_from, eqb-false, ne_eqb, ltb-true, lt-ltb, not-true, not_from_false, false≢true}
 use Rattle.model.specs.declared.unit_state.UnitState.{UnitState}
-use Rattle.rows.specs.declared.row.Operand.{Operand}
 use Rattle.rows.specs.declared.row.Register.{Register}
 use Rattle.rows.specs.declared.row.Action.{Action}
 use Rattle.rows.specs.declared.row.Action.TheVariants.{Silent, Broadcast as Send, Receive as Fill}
 use Rattle.rows.specs.declared.row.Row.{Row}
 use Rattle.lists.specs.Products.{product}
-use Rattle.rows.specs.Units.{reads, enabled, is_receive, receivable, filled, advanced, taken}
+use Rattle.rows.specs.Units.{enabled, is_receive, receivable, filled, advanced, taken}
 use Rattle.ways.specs.declared.way.Choice.{Choice}
 use Rattle.ways.specs.declared.way.Choice.TheVariants.{Stay, Take}
 use Rattle.ways.specs.Nets.{Net, row_at, idle}
@@ -18,7 +17,7 @@ use Rattle.model.specs.GroupSets.{linked}
 use Rattle.model.specs.declared.group_set.GroupSet.{GroupSet}
 use Rattle.ways.specs.Landings.{chosen}
 use Rattle.lists.specs.Products.{In, head, tail}
-use Rattle.calculus.specs.Calculus.{NodeAction, out, inp, tau, NoOutput, Node, by_tau, by_mcast, by_recv, Beside, by_nil, by_par, by_com, Parallel}
+use Rattle.calculus.specs.Calculus.{inp, Node, by_recv, Beside, by_nil, by_par, by_com}
 use Rattle.lists.proofs.Members.{in_none, in_cases, in_map, in_mapped, in_counting, counting_in, in_when, when_in, in_kept, kept_in, in_product, product_in}
 
 -- the choices of the unit x, of number j, while the unit U sends on G

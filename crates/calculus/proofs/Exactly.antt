@@ -1,15 +1,14 @@
 -- The list has just the steps that can be derived. Assumes nothing.
-use Rattle.std.proofs.Common.{◌≡◌, ℕ, zero, suc, ◌+◌, ◌<◌, ◌≤◌, Bool, true, false, cond, not, ◌&&◌, eqb, ◌⊎◌, List, [], ◌∷◌, ◌++◌, map, length, get_or, set, replicate, ℤ, pos, Some, None, filter, sym, refl, ap, ◌∙◌, subst, inl, inr, arith}
-use Rattle.std.specs.List.{range_with_len, flat_map, slice_get}
+use Rattle.std.proofs.Common.{◌≡◌, ℕ, zero, suc, ◌+◌, ◌<◌, ◌≤◌, Bool, true, false, cond, not, ◌&&◌, eqb, ◌⊎◌, List, [], ◌∷◌, map, length, get_or, set, replicate, ℤ, pos, Some, filter, sym, refl, ap, ◌∙◌, subst, inl, inr, arith}
+use Rattle.std.specs.List.{range_with_len, slice_get}
 use Rattle.std.proofs.lemmas.Option.{slice_get-get_or}
-use Rattle.std.proofs.lemmas.List.{length-set, get_or-set_same, get_or-set_other, length-map}
-use Rattle.std.proofs.lemmas.List.FromFn.{fill_by_all, length-range_with_len}
+use Rattle.std.proofs.lemmas.List.{length-set, get_or-set_same, get_or-set_other}
+use Rattle.std.proofs.lemmas.List.FromFn.{fill_by_all}
 use Rattle.std.proofs.lemmas.Bool.{and_parts, and_from, eqb-true, eqb-false, ne_eqb, eq-eqb, not-true, not_from_false, cases_eq}
 use Rattle.model.specs.declared.unit_state.UnitState.{UnitState}
 use Rattle.model.specs.declared.state.State.{State}
 use Rattle.model.specs.declared.label.Label.{Label}
 use Rattle.model.specs.declared.label.Label.TheVariants.{Silent as Hidden, Movement, Broadcast, Receive}
-use Rattle.rows.specs.declared.row.Operand.{Operand}
 use Rattle.rows.specs.declared.row.Register.{Register}
 use Rattle.rows.specs.declared.row.Action.{Action}
 use Rattle.rows.specs.declared.row.Action.TheVariants.{Silent, Broadcast as Send, Receive as Fill}
@@ -23,12 +22,12 @@ use Rattle.model.specs.GroupSets.{part, empty}
 use Rattle.model.specs.declared.group_set.GroupSet.{GroupSet}
 use Rattle.ways.specs.declared.way.Choice.{Choice}
 use Rattle.ways.specs.declared.way.Choice.TheVariants.{Stay, Take}
-use Rattle.ways.specs.Nets.{Net, unit_at, row_at, idle, free_part}
+use Rattle.ways.specs.Nets.{Net, unit_at, row_at, free_part}
 use Rattle.ways.specs.Ways.{choices, combinations, acts_by, acts_of, acts, all_stay}
 use Rattle.ways.specs.Landings.{chosen, slot_after, acted, incoming, act_label, label_of, landing_of, placed, moved, step_of}
 use Rattle.network.specs.Meanings.{set_of, may_move, movements_of, movements, ways, lawful}
-use Rattle.lists.specs.Products.{In, head, tail}
-use Rattle.calculus.specs.Calculus.{NodeAction, out, inp, tau, NoOutput, Node, by_tau, by_mcast, by_recv, Parallel, Derives, by_mobility, by_res_tau, by_res_out, by_res_hide, by_res_inp}
+use Rattle.lists.specs.Products.{In, head}
+use Rattle.calculus.specs.Calculus.{NodeAction, out, inp, tau, NoOutput, Node, by_tau, by_recv, Parallel, Derives, by_mobility, by_res_tau, by_res_out, by_res_hide, by_res_inp}
 use Rattle.calculus.specs.Exactness.{Exact}
 use Rattle.lists.proofs.Members.{in_none, in_cases, in_left, in_right, in_either, in_map, in_mapped, in_joined, joined_in, in_counting, counting_in, in_when, when_in, in_kept, kept_in, product_in}
 use Rattle.calculus.proofs.Derived.{opts, optlist, landlist}

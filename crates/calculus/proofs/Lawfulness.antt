@@ -1,12 +1,12 @@
 -- A step from a lawful state lands in lawful states. Assumes nothing.
-use Rattle.std.proofs.Common.{◌≡◌, ℕ, zero, suc, ◌+◌, ◌<◌, ◌≤◌, Bool, true, false, cond, not, ◌&&◌, eqb, ltb, leb, ◌⊎◌, List, [], ◌∷◌, ◌++◌, map, length, get_or, replicate, ℤ, pos, Some, filter, sym, refl, ap, ◌∙◌, subst, inl, inr, ⊎_elim, zero-add, arith}
-use Rattle.std.specs.List.{range_with_len, flat_map, slice_get}
+use Rattle.std.proofs.Common.{◌≡◌, ℕ, zero, suc, ◌<◌, ◌≤◌, Bool, true, false, cond, not, eqb, ltb, leb, ◌⊎◌, List, [], ◌∷◌, map, length, get_or, replicate, ℤ, pos, Some, filter, sym, refl, ap, ◌∙◌, subst, inl, inr, ⊎_elim, zero-add, arith}
+use Rattle.std.specs.List.{range_with_len, slice_get}
 use Rattle.std.proofs.lemmas.List.FromFn.{get_or-map-range_with_len, fill_by_all, length-map-range_with_len}
 use Rattle.std.proofs.lemmas.List.{get_or_past}
 use Rattle.std.proofs.lemmas.Option.{slice_get-get_or}
-use Rattle.std.proofs.lemmas.Bool.{and_parts, and_from, eqb-true, eqb-false, eq-eqb, ne_eqb, ltb-true, ltb-false, lt-ltb, le-ltb, cases_eq, cases_Bool, true≢false, false≢true}
+use Rattle.std.proofs.lemmas.Bool.{and_parts, and_from, eq-eqb, ne_eqb, ltb-true, ltb-false, lt-ltb, cases_eq, cases_Bool, false≢true}
 use Rattle.lists.specs.Products.{product, In, head, tail}
-use Rattle.lists.specs.Words.{every, every_from, Stands}
+use Rattle.lists.specs.Words.{every}
 use Rattle.lists.proofs.Loops.{every_each, each_every}
 use Rattle.lists.proofs.Places.{nth_within, some_same}
 use Rattle.lists.proofs.Mapped.{mapped_from}
@@ -18,7 +18,7 @@ use Rattle.model.specs.declared.group_set.GroupSet.{GroupSet}
 use Rattle.model.specs.declared.state.State.{State}
 use Rattle.model.specs.declared.unit_state.UnitState.{UnitState}
 use Rattle.systems.specs.Meaning.{Step}
-use Rattle.rows.specs.Units.{reads, enabled, is_receive, filled, advanced, taken}
+use Rattle.rows.specs.Units.{reads, enabled, is_receive, filled, taken}
 use Rattle.rows.specs.Programs.{operand_in_range, action_in_range, row_in_range}
 use Rattle.rows.specs.declared.row.Operand.{Operand}
 use Rattle.rows.specs.declared.row.Operand.TheVariants.{First, Second, Constant}

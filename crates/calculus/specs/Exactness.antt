@@ -1,10 +1,9 @@
 -- The list of steps has just the steps that the calculus derives, each once, in the stated order.
-use Rattle.std.specs.Prelude.{◌≡◌, ℕ, ◌<◌, ◌≤◌, Bool, true, ◌⊎◌, List, map, length, ℤ}
+use Rattle.std.specs.Prelude.{◌≡◌, ◌<◌, ◌≤◌, Bool, true, ◌⊎◌, List, map, length, ℤ}
 use Rattle.lists.specs.Products.{In, Sorted, Lexicographic}
 use Rattle.model.specs.declared.group_set.GroupSet.{GroupSet}
 use Rattle.model.specs.declared.label.Label.{Label}
 use Rattle.model.specs.declared.state.State.{State}
-use Rattle.systems.specs.Meaning.{Meaning}
 use Rattle.ways.specs.declared.way.Choice.{Choice}
 use Rattle.ways.specs.declared.way.Choice.TheVariants.{Stay, Take}
 use Rattle.ways.specs.declared.way.Way.{Way}

@@ -1,5 +1,5 @@
 -- Payloads that are put together. Assumes nothing.
-use Rattle.std.proofs.Common.{◌≡◌, ℕ, ◌+◌, ◌-◌, ◌*◌, ◌/◌, ◌<◌, ◌≤◌, Bool, true, false, ◌&&◌, eqb, List, [], ◌∷◌, ◌++◌, map, length, get_or, take, drop, Some, None, sym, refl, ap, ◌∙◌, subst, arith}
+use Rattle.std.proofs.Common.{◌≡◌, ℕ, ◌+◌, ◌-◌, ◌*◌, ◌/◌, ◌<◌, ◌≤◌, Bool, true, false, ◌&&◌, eqb, List, [], ◌∷◌, ◌++◌, map, length, get_or, take, drop, Some, None, sym, ap, ◌∙◌, subst, arith}
 use borrow.Rule.Slice.PartMut.{put_mid}
 use Rattle.std.proofs.lemmas.List.{length-append, length-take, length-drop, append-nil, append_assoc, take_all, map_push}
 use Rattle.std.proofs.lemmas.Slice.{take-put_mid}
@@ -14,7 +14,7 @@ use Rattle.questions.specs.declared.Side.{Side}
 use Rattle.frames.specs.declared.payloads.Payloads.{Payloads}
 use Rattle.frames.specs.declared.payloads.Kind.{Kind}
 use Rattle.frames.specs.declared.payloads.Kind.TheVariants.{Row, Link}
-use Rattle.frames.specs.Payloads.{Kept, payload, payloads_of, kind_byte, width_of, side_bytes, relation_of}
+use Rattle.frames.specs.Payloads.{Kept, payload, kind_byte, width_of, side_bytes, relation_of}
 
 -- a payload for which there is room is written behind the others
 pub kept_added : (all ys zs bytes : List ℕ) (p : Payloads) (m : ℕ) → Kept all p → zs ≡ ys → p.len + length ys ≤ 1024 → m ≡ length ys → bytes ≡ put_mid p.len m p.bytes zs

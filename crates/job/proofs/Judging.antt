@@ -1,5 +1,5 @@
 -- From the judge of a loaded job to the verdict on its input. Assumes nothing.
-use Rattle.std.proofs.Common.{◌≡◌, ℕ, List, ◌++◌, length, Some, None, vec_items, Option, sym, refl, ap, ◌∙◌}
+use Rattle.std.proofs.Common.{◌≡◌, ℕ, List, length, Some, None, vec_items, Option, refl, ap, ◌∙◌}
 use Rattle.questions.specs.Asking.{first_no}
 use Rattle.questions.specs.declared.Refusal.{Refusal}
 use Rattle.questions.specs.declared.Side.TheVariants.{Left, Right}

@@ -1,6 +1,6 @@
 -- No question of a job has the number 0. Assumes nothing.
-use Rattle.std.proofs.Common.{ℕ, ◌<◌, List, ◌++◌, ℤ, Option, lit<}
-use Rattle.questions.specs.Asking.{Question, numbered, restated}
+use Rattle.std.proofs.Common.{ℕ, ◌<◌, List, ◌++◌, Option, lit<}
+use Rattle.questions.specs.Asking.{restated}
 use Rattle.questions.specs.declared.Refusal.{Refusal}
 use Rattle.questions.specs.declared.Side.{Side}
 use Rattle.questions.specs.declared.Side.TheVariants.{Left, Right}

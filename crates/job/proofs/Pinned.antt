@@ -1,10 +1,9 @@
 -- The bytes of an answer are the verdict on its input. Assumes nothing.
-use Rattle.std.proofs.Common.{◌≡◌, ℕ, ◌<◌, ◌≤◌, true, false, leb, ◌⊎◌, List, ◌++◌, length, get_or, take, Some, None, sym, refl, ap, ◌∙◌, subst, inl, inr, arith}
+use Rattle.std.proofs.Common.{◌≡◌, ℕ, ◌<◌, ◌≤◌, true, false, leb, ◌⊎◌, List, length, take, Some, None, sym, refl, ap, ◌∙◌, subst, inl, inr, arith}
 use Rattle.std.proofs.lemmas.List.{take_all, length-take-le}
 use Rattle.std.proofs.lemmas.Bool.Decides.{nat_tests}
 use Rattle.lists.proofs.Places.{some_none}
 use Rattle.questions.specs.Asking.{first_no, refuse}
-use Rattle.questions.specs.declared.Refusal.{Refusal}
 use Rattle.questions.proofs.Asked.{head_no, append_left, append_right, append_none}
 use Rattle.questions.proofs.Saying.{says_first}
 use Rattle.judge.specs.Judged.{judge_asked}

@@ -1,5 +1,5 @@
 -- A whole job: its questions, and what a loaded one means.
-use Rattle.std.specs.Prelude.{◌≡◌, ℕ, List, ◌++◌, length, vec_items}
+use Rattle.std.specs.Prelude.{◌≡◌, ℕ, List, ◌++◌, vec_items}
 use Rattle.questions.specs.Asking.{Question}
 use Rattle.questions.specs.declared.Refusal.{Refusal}
 use Rattle.questions.specs.declared.Side.TheVariants.{Left, Right}

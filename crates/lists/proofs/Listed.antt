@@ -1,5 +1,5 @@
 -- Length and place in a list that is joined, filtered or multiplied out. Assumes nothing.
-use Rattle.std.proofs.Common.{◌≡◌, ℕ, zero, suc, ◌+◌, ◌-◌, ◌*◌, ◌/◌, ◌%◌, ◌<◌, ◌≤◌, Bool, true, false, cond, List, [], ◌∷◌, ◌++◌, map, length, get_or, take, drop, set, Some, None, filter, Option, sym, refl, ap, ◌∙◌, subst, add_assoc, mul_assoc, suc-mul, add-mul, one-mul, mul-zero, zero-add, zero-mul, mul-one, arith}
+use Rattle.std.proofs.Common.{◌≡◌, ℕ, zero, suc, ◌+◌, ◌-◌, ◌*◌, ◌/◌, ◌%◌, ◌<◌, ◌≤◌, Bool, true, false, cond, List, [], ◌∷◌, ◌++◌, map, length, get_or, take, set, Some, None, filter, Option, sym, refl, ap, ◌∙◌, subst, mul_assoc, suc-mul, add-mul, one-mul, mul-zero, zero-mul, mul-one, arith}
 use native.Mathlib.Nat.{mul-div_cancel_left}
 use Rattle.std.proofs.lemmas.List.{length-append, length-map, append_assoc, append-nil, take_all, length-set, take_more_set}
 use Rattle.std.proofs.lemmas.List.FromFn.{map-range_with_len_more, fill_by_all}

@@ -1,5 +1,5 @@
 -- What stands at a place of a list that is mapped. Assumes nothing.
-use Rattle.std.proofs.Common.{◌≡◌, ℕ, zero, suc, List, [], ◌∷◌, map, Some, None, Option, sym, refl, ap, ◌∙◌, arith}
+use Rattle.std.proofs.Common.{◌≡◌, ℕ, zero, suc, List, [], ◌∷◌, map, Some, None, refl, ap, arith}
 use Rattle.std.specs.List.{slice_get}
 use Rattle.lists.specs.Words.{through}
 

@@ -1,11 +1,11 @@
 -- Facts on records of w bytes. Assumes nothing.
-use Rattle.std.proofs.Common.{◌≡◌, ℕ, zero, suc, ◌+◌, ◌-◌, ◌*◌, ◌/◌, ◌<◌, ◌≤◌, List, [], ◌∷◌, ◌++◌, map, length, take, drop, Some, sym, refl, ap, ◌∙◌, mul-le-mul_left, mul-zero, zero-add, mul-one, mul-suc, mul-add, arith, take-add}
+use Rattle.std.proofs.Common.{◌≡◌, ℕ, zero, suc, ◌+◌, ◌-◌, ◌*◌, ◌/◌, ◌<◌, ◌≤◌, List, ◌++◌, map, length, take, drop, Some, sym, ap, ◌∙◌, mul-le-mul_left, mul-zero, zero-add, mul-one, mul-suc, mul-add, arith, take-add}
 use native.Mathlib.Nat.{mul-div-le}
 use Rattle.std.specs.List.{range_with_len, flat_map, slice_get}
 use Rattle.std.proofs.lemmas.Option.{slice_get-get_or}
 use Rattle.std.proofs.lemmas.List.{take_all, drop-drop}
 use Rattle.std.proofs.lemmas.List.FromFn.{length-map-range_with_len, get_or-map-range_with_len}
-use Rattle.lists.specs.Words.{cut, records}
+use Rattle.lists.specs.Words.{records}
 
 pub length_records : (w : ℕ) (bytes : List ℕ) → length (records w bytes) ≡ length bytes / w
 length_records w bytes = length-map-range_with_len (λ k. take w (drop (w * k) bytes)) 0 (length bytes / w)

@@ -1,5 +1,5 @@
 -- Sets of groups by their bits. Assumes nothing.
-use Rattle.std.proofs.Common.{◌≡◌, ℕ, zero, suc, ◌+◌, ◌*◌, ◌/◌, ◌%◌, ◌^◌, ◌<◌, min, max, Bool, true, false, not, ◌&&◌, ◌||◌, eqb, length, Decides, filter, sym, refl, ap, ◌∙◌, subst, ⊎_elim, zero-add, div-one, arith}
+use Rattle.std.proofs.Common.{◌≡◌, ℕ, suc, ◌/◌, ◌%◌, ◌^◌, ◌<◌, min, max, Bool, true, false, ◌&&◌, ◌||◌, eqb, length, Decides, filter, sym, refl, ap, ◌∙◌, ⊎_elim, zero-add, div-one, arith}
 use native.Mathlib.Nat.{zero-div, div-div-eq-div-mul, pow-succ'}
 use lib.Arith.{bin_ind}
 use lib.Bits.{bit_and, bit_or, and_step, or_step, and_shr, or_shr}

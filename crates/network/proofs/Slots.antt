@@ -1,5 +1,5 @@
 -- Slots by their numbers. Assumes nothing.
-use Rattle.std.proofs.Common.{◌≡◌, ℕ, zero, suc, ◌+◌, ◌<◌, List, [], ◌∷◌, Some, refl, ap, ◌∙◌, arith}
+use Rattle.std.proofs.Common.{◌≡◌, ℕ, zero, suc, ◌+◌, ◌<◌, Some, ap, ◌∙◌, arith}
 use Rattle.std.specs.List.{range_with_len, slice_get}
 
 nth_counting : (a m k : ℕ) → k < m → slice_get (range_with_len a m) k ≡ Some (a + k)

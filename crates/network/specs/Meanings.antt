@@ -1,5 +1,5 @@
 -- What a network means: its lawful states, the sets they show, and their steps.
-use Rattle.std.specs.Prelude.{ℕ, Bool, cond, not, ◌&&◌, List, [], ◌++◌, map, take, ℤ, pos, fold, filter, ◌==◌, nat_le, nat_lt}
+use Rattle.std.specs.Prelude.{ℕ, Bool, cond, not, ◌&&◌, List, [], ◌++◌, map, take, pos, fold, filter, ◌==◌, nat_le, nat_lt}
 use Rattle.std.specs.List.{range_with_len, flat_map}
 use Rattle.lists.specs.Words.{every}
 use Rattle.model.specs.GroupSets.{part, union_of}

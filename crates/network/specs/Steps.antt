@@ -1,6 +1,6 @@
 -- From ways to steps, and what a network keeps as a system. Assumes nothing.
-use Rattle.std.specs.Prelude.{◌≡◌, ℕ, zero, suc, ◌+◌, ◌<◌, ◌≤◌, Bool, true, false, cond, List, [], ◌∷◌, ◌++◌, map, length, ℤ, ◌≤ℤ◌, IfOk, Some, None, Option, Result, refl}
-use Rattle.std.proofs.Common.{sym, ap, ◌∙◌, arith}
+use Rattle.std.specs.Prelude.{◌≡◌, ℕ, ◌+◌, Bool, true, false, cond, List, [], ◌∷◌, ◌++◌, map, length, ℤ, ◌≤ℤ◌, IfOk, Some, None, Result, refl}
+use Rattle.std.proofs.Common.{sym, ap, ◌∙◌}
 use Rattle.std.specs.List.{slice_get}
 use Rattle.std.proofs.lemmas.List.{length-map, length-append}
 use Rattle.std.proofs.lemmas.Result.{IfOk-weaker}
@@ -10,7 +10,7 @@ use Rattle.lists.proofs.Mapped.{mapped_from, mapped_some, mapped_none}
 use Rattle.model.specs.Ranges.{in_range}
 use Rattle.model.specs.declared.group_set.GroupSet.{GroupSet}
 use Rattle.model.specs.declared.state.State.{State}
-use Rattle.systems.specs.Meaning.{Step, Keeps, receives, in_range_of}
+use Rattle.systems.specs.Meaning.{Step, Keeps, receives}
 use Rattle.systems.specs.declared.listed.Listed.{Listed}
 use Rattle.rows.specs.declared.row.Action.{Action}
 use Rattle.rows.specs.declared.row.Action.TheVariants.{Silent, Broadcast, Receive}
@@ -19,7 +19,7 @@ use Rattle.ways.specs.declared.way.Way.{Way}
 use Rattle.ways.specs.declared.way.Way.TheVariants.{Move, Act}
 use Rattle.ways.specs.Nets.{Net, unit_at, row_at, free_part}
 use Rattle.ways.specs.Landings.{label_of, landing_of, act_label, acted, incoming, step_of, listed_of}
-use Rattle.network.specs.Meanings.{set_of, lawful, ways, lawful_ways, union_shown, network_meaning}
+use Rattle.network.specs.Meanings.{set_of, ways, lawful_ways, union_shown, network_meaning}
 
 -- how many steps there are
 pub count_when : {X Y : Type 0} (f : X → Y) (b : Bool) (xs ys : List X) (n m : ℕ) → true ≡ b → n ≡ length xs → m ≡ length ys → n + m ≡ length (map f (cond b (xs ++ ys) []))

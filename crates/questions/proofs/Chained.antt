@@ -1,5 +1,5 @@
 -- One list of questions after another. Assumes nothing.
-use Rattle.std.proofs.Common.{◌≡◌, ℕ, true, List, ◌++◌, is_some, Some, None, Option, sym, refl, ◌∙◌, arith}
+use Rattle.std.proofs.Common.{◌≡◌, ℕ, true, List, ◌++◌, is_some, Some, None, Option, sym, ◌∙◌, arith}
 use Rattle.questions.specs.Asking.{Question, first_no}
 use Rattle.questions.proofs.Asked.{append_none, append_some}
 

@@ -1,5 +1,5 @@
 -- What every question says, the first no says too. Assumes nothing.
-use Rattle.std.proofs.Common.{◌≡◌, ℕ, suc, true, false, cond, List, [], ◌∷◌, ◌++◌, Some, None, Option, refl, subst}
+use Rattle.std.proofs.Common.{◌≡◌, ℕ, suc, true, false, cond, List, [], ◌∷◌, ◌++◌, Some, refl, subst}
 use Rattle.lists.proofs.Places.{some_none}
 use Rattle.questions.specs.Asking.{Question, first_no, numbered, restated}
 

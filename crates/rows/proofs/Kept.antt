@@ -1,13 +1,13 @@
 -- The rows in bytes keep the range and the locations, and they are few. Assumes nothing.
-use Rattle.std.proofs.Common.{◌≡◌, ℕ, zero, suc, ◌/◌, ◌≤◌, Bool, true, false, cond, ◌&&◌, eqb, leb, List, [], ◌∷◌, length, get_or, ℤ, Some, None, Option, sym, refl, ap, ◌∙◌, subst, arith}
+use Rattle.std.proofs.Common.{◌≡◌, ℕ, ◌/◌, ◌≤◌, Bool, true, false, cond, ◌&&◌, eqb, leb, List, length, get_or, ℤ, Some, None, Option, sym, refl, ap, ◌∙◌, arith}
 use Rattle.std.proofs.lemmas.Bool.{and_parts, and_from, leb-true}
-use Rattle.lists.specs.Words.{given, every, gathered, records}
+use Rattle.lists.specs.Words.{given, every, records}
 use Rattle.lists.proofs.Places.{some_none}
 use Rattle.lists.proofs.Records.{length_records}
 use Rattle.lists.proofs.Gathered.{length_gathered, every_gathered}
 use Rattle.questions.specs.Asking.{first_no}
 use Rattle.questions.proofs.Asked.{head_none}
-use Rattle.tables.specs.Table.{table_asked, fits_table}
+use Rattle.tables.specs.Table.{fits_table}
 use Rattle.model.specs.Ranges.{in_range}
 use Rattle.model.specs.Values.{value_of}
 use Rattle.rows.specs.declared.row.Operand.{Operand}
@@ -17,7 +17,7 @@ use Rattle.rows.specs.declared.row.Action.{Action}
 use Rattle.rows.specs.declared.row.Action.TheVariants.{Silent, Broadcast, Receive}
 use Rattle.rows.specs.declared.row.Register.TheVariants.{First as IntoFirst, Second as IntoSecond}
 use Rattle.rows.specs.declared.row.Row.{Row}
-use Rattle.rows.specs.Layouts.{parse_operand, parse_guard, parse_action, sending, assembled, framed, parse_row}
+use Rattle.rows.specs.Layouts.{parse_operand, parse_action, sending, assembled, framed, parse_row}
 use Rattle.rows.specs.Programs.{rows_asked, rows_of, operand_in_range, action_in_range, row_in_range}
 
 none_some : {X : Type 0} {x : X} → None ≡ Some x → ⊥

@@ -1,9 +1,8 @@
 -- Which sets are recorded for a unit. Assumes nothing.
-use Rattle.std.proofs.Common.{◌≡◌, ℕ, zero, suc, Bool, true, false, ◌&&◌, ◌||◌, eqb, List, [], ◌∷◌, is_some, Some, None, Option, sym, refl, ap, ◌∙◌, ⊎_elim, arith}
+use Rattle.std.proofs.Common.{◌≡◌, ℕ, zero, suc, Bool, true, List, [], ◌∷◌, is_some, Some, None, Option, sym, refl, ap, ◌∙◌, ⊎_elim, arith}
 use Rattle.std.proofs.lemmas.Bool.{and_parts, and_from, or_cases, or_left, or_right, eqb-true, eq-eqb, cases_Bool}
 use Rattle.lists.specs.Words.{Stands, FirstOf}
 use Rattle.lists.proofs.Places.{some_none}
-use Rattle.model.specs.declared.group_set.GroupSet.{GroupSet}
 use Rattle.rules.specs.declared.place.Place.{Place}
 use Rattle.rules.specs.Parkings.{recorded}
 

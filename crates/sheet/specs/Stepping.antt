@@ -1,15 +1,14 @@
 -- Loops over the rows of a sheet, and what the steps keep. The element of a turn is `get_or rows k d`, as code reads it.
 -- Assumes nothing.
-use Rattle.std.specs.Prelude.{◌≡◌, ℕ, ◌+◌, ◌-◌, ◌<◌, ◌≤◌, Bool, true, false, cond, List, [], ◌∷◌, ◌++◌, map, length, get_or, take, drop, ℤ, Some, None, Option, ◌==◌, ◌≢◌, slice_index_or, refl}
-use Rattle.std.proofs.Common.{sym, ap, ◌∙◌, arith}
+use Rattle.std.specs.Prelude.{◌≡◌, ℕ, ◌+◌, ◌-◌, ◌<◌, ◌≤◌, Bool, false, cond, List, [], ◌∷◌, ◌++◌, map, length, get_or, take, drop, ℤ, Some, Option, ◌==◌, ◌≢◌, slice_index_or, refl}
+use Rattle.std.proofs.Common.{ap, ◌∙◌, arith}
 use Rattle.std.specs.List.{slice_get}
 use Rattle.std.proofs.lemmas.Option.{slice_get-get_or}
 use Rattle.std.proofs.lemmas.Bool.{eq-eqb, ne_eqb, true≢false}
 use Rattle.lists.specs.Words.{Stands}
 use Rattle.lists.proofs.Kept.{count_yes, count_no, push_yes, push_no, seek_here, seek_yes, seek_no}
-use Rattle.model.specs.declared.state.State.{State}
 use Rattle.systems.specs.declared.listed.Listed.{Listed}
-use Rattle.systems.specs.Meaning.{Step, Meaning, Keeps, receives, in_range_of}
+use Rattle.systems.specs.Meaning.{Keeps, receives}
 use Rattle.systems.proofs.Ways.{steady_ways}
 use Rattle.sheet.specs.declared.row.Row.{Row}
 use Rattle.sheet.specs.declared.row.Kind.{Kind}

@@ -1,5 +1,5 @@
 -- The 16 bytes of a verdict.
-use Rattle.std.specs.Prelude.{ℕ, ◌/◌, ◌%◌, ◌^◌, List, [], ◌∷◌, ◌++◌, map, replicate}
+use Rattle.std.specs.Prelude.{ℕ, ◌/◌, ◌%◌, ◌^◌, List, ◌∷◌, ◌++◌, map, replicate}
 use Rattle.std.specs.List.{range_with_len}
 use Rattle.questions.specs.Sides.{side_byte}
 use Rattle.questions.specs.declared.Refusal.{Refusal}

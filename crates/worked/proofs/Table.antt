@@ -4,7 +4,7 @@ use lib.Count.{ones}
 use Rattle.std.specs.List.{AllByRecursion as All}
 use Rattle.lists.specs.Products.{product}
 use Rattle.model.specs.Bytes.{state_of, state_bytes}
-use Rattle.worked.specs.Entries.{Entry, answer}
+use Rattle.worked.specs.Entries.{answer}
 use Rattle.worked.specs.Examples.{Examples, table}
 
 head : {X : Type 0} → X → List X → X

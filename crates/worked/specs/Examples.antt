@@ -5,7 +5,6 @@ use Rattle.questions.specs.declared.Side.TheVariants.{Left, Right}
 use Rattle.model.specs.Bytes.{unit_of}
 use Rattle.model.specs.declared.group_set.GroupSet.{GroupSet}
 use Rattle.model.specs.declared.label.Label.TheVariants.{Silent, Broadcast, Receive}
-use Rattle.model.specs.declared.state.Pair.{Pair}
 use Rattle.model.specs.declared.state.State.{State}
 use Rattle.systems.specs.Meaning.{Meaning}
 use Rattle.sheet.specs.States.{state_at}

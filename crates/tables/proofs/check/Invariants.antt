@@ -1,4 +1,4 @@
-use Rattle.std.proofs.Common.{◌≡◌, ℕ, ◌/◌, length, drop}
+use Rattle.std.proofs.Common.{◌≡◌, ℕ, drop}
 use Rattle.lists.specs.Words.{records}
 use Rattle.questions.specs.Asking.{numbered, first_no}
 use Rattle.tables.specs.Table.{record_asked, table_asked}

@@ -1,4 +1,3 @@
-use Rattle.std.proofs.Common.{rules}
 use Rattle.tables.proofs.Reading.{none_refused, loaded_more, loaded_all}
 use Rattle.tables.proofs.load.Goals as goal
 

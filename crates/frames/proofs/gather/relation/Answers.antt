@@ -1,4 +1,4 @@
-use Rattle.std.proofs.Common.{◌≡◌, vec_items, sym, refl, ap, ◌∙◌}
+use Rattle.std.proofs.Common.{vec_items, ap, ◌∙◌}
 use Rattle.frames.proofs.Keeping.{pairs_more, pairs_skip, pairs_all}
 use Rattle.frames.proofs.gather.relation.Goals as goal
 use Rattle.frames.proofs.gather.relation.Goals.{then-is_of+in_ok-push, else-is_of}

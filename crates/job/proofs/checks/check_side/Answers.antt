@@ -1,4 +1,4 @@
-use Rattle.std.proofs.Common.{◌≡◌, ap, ◌∙◌}
+use Rattle.std.proofs.Common.{ap, ◌∙◌}
 use Rattle.questions.specs.Asking.{first_no}
 use Rattle.frames.specs.Payloads.{side_bytes, setting_of}
 use Rattle.frames.specs.declared.payloads.Kind.TheVariants.{Row, Link}

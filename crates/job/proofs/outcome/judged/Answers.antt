@@ -1,7 +1,4 @@
-use Rattle.std.proofs.Common.{◌≡◌, ap, ◌∙◌}
 use Rattle.std.proofs.lemmas.Result.{err_from_is_err_and}
-use Rattle.job.specs.Faults.{job_refusal}
-use Rattle.job.specs.Verdicts.{Told}
 use Rattle.job.proofs.Judging.{told_first, judge_told, judge_passed, judge_counted}
 use Rattle.job.proofs.outcome.judged.Goals as goal
 

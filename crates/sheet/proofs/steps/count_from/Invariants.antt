@@ -1,4 +1,4 @@
-use Rattle.std.proofs.Common.{◌≡◌, ◌≤◌, eqb, length, take}
+use Rattle.std.proofs.Common.{◌≡◌, ◌≤◌, length, take}
 use Rattle.sheet.specs.Meaning.{rows_from}
 use Rattle.sheet.proofs.steps.count_from.Given as goal
 

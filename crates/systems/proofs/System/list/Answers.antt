@@ -1,4 +1,4 @@
-use Rattle.std.proofs.Common.{◌≡◌, ◌<◌, ◌≤◌, length, vec_items, sym, refl, ap, ◌∙◌, arith, w8, to_z, of_z}
+use Rattle.std.proofs.Common.{◌<◌, ◌≤◌, length, vec_items, refl, ap, ◌∙◌, arith, w8, to_z, of_z}
 use Rattle.std.proofs.lemmas.Int.{to_z-of_z}
 use Rattle.systems.proofs.Facts.{list_more, list_all, label_there}
 use Rattle.systems.proofs.System.list.Goals as goal

@@ -1,6 +1,5 @@
 use Rattle.std.proofs.Common.{ap}
 use Rattle.std.proofs.lemmas.Slice.Eq.{slice_eq-Decides}
-use Rattle.model.specs.declared.state.State.{State}
 use Rattle.model.proofs.Deciding.{decides_eq}
 use Rattle.model.proofs.sameness.StateSame.same.Goals as goal
 

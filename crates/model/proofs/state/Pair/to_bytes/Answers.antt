@@ -1,6 +1,6 @@
 use Rattle.std.proofs.Common.{◌≡◌, length, sym, refl, ap, ◌∙◌, arith}
 use Rattle.std.proofs.lemmas.List.{length-append}
-use Rattle.model.specs.Bytes.{state_of, state_bytes, pair_of}
+use Rattle.model.specs.Bytes.{state_of, pair_of}
 use Rattle.model.proofs.Layouts.{pair_written, pair_kept}
 use Rattle.model.proofs.state.Pair.to_bytes.Goals as goal
 

@@ -1,6 +1,6 @@
-use Rattle.std.proofs.Common.{◌≡◌, ◌≤◌, true, List, length, vec_items, sym, ap, ◌∙◌, subst, rules}
+use Rattle.std.proofs.Common.{◌≡◌, ◌≤◌, true, List, length, vec_items, sym, subst, rules}
 use Rattle.lists.specs.Words.{every}
-use Rattle.rows.specs.Programs.{row_in_range, rows_of}
+use Rattle.rows.specs.Programs.{row_in_range}
 use Rattle.rows.specs.declared.row.Row.{Row}
 use Rattle.rows.proofs.Kept.{rows_kept, rows_few}
 use Rattle.rows.proofs.program.Program.load.Goals as goal

@@ -1,9 +1,7 @@
-use Rattle.std.proofs.Common.{◌≡◌, List, sym, ap, ◌∙◌}
+use Rattle.std.proofs.Common.{sym, ◌∙◌}
 use Rattle.std.proofs.lemmas.Option.{slice_get-get_or}
 use Rattle.lists.proofs.Loops.{every_more, every_fails, every_all}
 use Rattle.rules.specs.LinkRecords.{met}
-use Rattle.rules.specs.LinkRules.{meets}
-use Rattle.rules.specs.declared.link.Link.{Link}
 use Rattle.rules.proofs.Meeting.{meets_same}
 use Rattle.rules.proofs.links.LinksRule.allows.Goals as goal
 

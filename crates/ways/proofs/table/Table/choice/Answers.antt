@@ -1,4 +1,4 @@
-use Rattle.std.proofs.Common.{◌≡◌, sym, ap, ◌∙◌, inl, inr}
+use Rattle.std.proofs.Common.{sym, ◌∙◌, inl, inr}
 use Rattle.ways.proofs.Chosen.{choice_stay, choice_take, choice_past}
 use Rattle.ways.proofs.table.Table.choice.Goals as goal
 use Rattle.ways.proofs.table.Table.choice.Goals.{then-number-eq0-via-then-number-eq0, then-number-eq0-via-else-number-eq0+then-not-is_listener}

@@ -1,5 +1,5 @@
 use Rattle.std.proofs.Common.{◌<◌, sym, refl, subst}
-use Rattle.lists.proofs.Listed.{picking_some, picking_digit, picking_more, picking_all}
+use Rattle.lists.proofs.Listed.{picking_some, picking_more, picking_all}
 use Rattle.ways.specs.Nets.{net_of}
 use Rattle.ways.specs.Ways.{choices}
 use Rattle.ways.specs.declared.way.Choice.TheVariants.{Stay}
