@@ -1,6 +1,6 @@
 -- The ways stand in ascending order. Assumes nothing.
 use Rattle.std.proofs.Common.{◌≡◌, ℕ, ◌<◌, Bool, true, false, cond, ◌⊎◌, List, [], ◌∷◌, map, length, filter, sym, refl, ◌∙◌, inl, inr, arith}
-use Rattle.std.specs.List.{range_with_len, AllByRecursion as All}
+use Rattle.std.specs.List.{range_with_len, AllByRecursion}
 use Rattle.model.specs.declared.state.State.{State}
 use Rattle.rows.specs.declared.row.Action.{Action}
 use Rattle.rows.specs.declared.row.Action.TheVariants.{Silent, Broadcast as Send, Receive as Fill}
@@ -78,7 +78,7 @@ kinds_apart (Move a g) (Act b k hs) p q = tt
 kinds_apart (Act a k hs) (Move b g) p q = absurd p
 kinds_apart (Act a k hs) (Act b k' hs') p q = absurd p
 
-takes : (ks : List ℕ) → All (ChoiceBefore Stay) (map Take ks)
+takes : (ks : List ℕ) → AllByRecursion (ChoiceBefore Stay) (map Take ks)
 takes [] = tt
 takes (k ∷ ks) = (tt, takes ks)
 
@@ -107,7 +107,7 @@ module _ (t : Net) (s : State) where
       sorted_when Earlier (enabled (unit_at s u) (row_at t k)) (map (Act u k) (combinations t s u (row_at t k).action))
       (sorted_map (Lexicographic ChoiceBefore) Earlier (Act u k) (combinations t s u (row_at t k).action) (λ x y b. inr (refl, inr (refl, b))) (sorted_combinations u (row_at t k).action))
 
-  rows_of : (u k : ℕ) → All (RowOf u k) (acts_by t s u k)
+  rows_of : (u k : ℕ) → AllByRecursion (RowOf u k) (acts_by t s u k)
   rows_of u k = all_when (RowOf u k) (enabled (unit_at s u) (row_at t k)) (map (Act u k) (combinations t s u (row_at t k).action)) (all_mapped (RowOf u k) (Act u k) (combinations t s u (row_at t k).action) (λ hs. (refl, refl)))
 
   sorted_acts_of : (u : ℕ) → Sorted Earlier (acts_of t s u)
@@ -115,7 +115,7 @@ module _ (t : Net) (s : State) where
       sorted_joined ◌<◌ Earlier (acts_by t s u) (range_with_len 0 (length t.rows)) (sorted_counting 0 (length t.rows)) (sorted_acts_by u)
       (λ k k' h. all_cross (RowOf u k) (RowOf u k') Earlier (acts_by t s u k) (acts_by t s u k') (rows_apart u k k' h) (rows_of u k) (rows_of u k'))
 
-  all_acts : (P : Way → Type 0) (u : ℕ) → ((k : ℕ) (hs : List Choice) → P (Act u k hs)) → All P (acts_of t s u)
+  all_acts : (P : Way → Type 0) (u : ℕ) → ((k : ℕ) (hs : List Choice) → P (Act u k hs)) → AllByRecursion P (acts_of t s u)
   all_acts P u h =
       all_joined P (acts_by t s u) 0 (length t.rows) (length t.rows) (omega arith)
       (λ k _. all_when P (enabled (unit_at s u) (row_at t k)) (map (Act u k) (combinations t s u (row_at t k).action)) (all_mapped P (Act u k) (combinations t s u (row_at t k).action) (h k)))
@@ -126,7 +126,7 @@ module _ (t : Net) (s : State) where
       (λ u u' h. all_cross (ActOf u) (ActOf u') Earlier (acts_of t s u) (acts_of t s u') (acts_apart u u' h) (all_acts (ActOf u) u (λ k hs. refl)) (all_acts (ActOf u') u' (λ k hs. refl)))
 
   module _ (allowed : List GroupSet → Bool) where
-    all_moves : (P : Way → Type 0) (u : ℕ) → ((g : GroupSet) → P (Move u g)) → All P (movements_of t allowed s u)
+    all_moves : (P : Way → Type 0) (u : ℕ) → ((g : GroupSet) → P (Move u g)) → AllByRecursion P (movements_of t allowed s u)
     all_moves P u h = all_mapped P (λ b. Move u (set_of b)) (filter (λ b. may_move t allowed s u (set_of b)) (range_with_len 0 256)) (λ b. h (set_of b))
 
     sorted_moves : Sorted Earlier (movements t allowed s)

@@ -1,6 +1,6 @@
 -- Products of lists, membership, and order.
 use Rattle.std.specs.Prelude.{◌≡◌, ℕ, ◌*◌, ◌/◌, ◌%◌, ◌⊎◌, List, [], ◌∷◌, map, length, slice_index_or}
-use Rattle.std.specs.List.{flat_map, AllByRecursion as All}
+use Rattle.std.specs.List.{flat_map, AllByRecursion}
 
 -- every list that has one element of each list, the first list slowest
 unfoldable pub product : {X : Type 0} → List (List X) → List (List X)
@@ -25,7 +25,7 @@ pub data In {X : Type 0} (x : X) : List X → Type 0 where
 -- each element comes before all that follow it
 abbrev pub Sorted : {X : Type 0} → (X → X → Type 0) → List X → Type 0
 Sorted R [] = Unit {0}
-Sorted R (x ∷ xs) = All (R x) xs × Sorted R xs
+Sorted R (x ∷ xs) = AllByRecursion (R x) xs × Sorted R xs
 
 -- lists of equal length, by their first difference
 abbrev pub Lexicographic : {X : Type 0} → (X → X → Type 0) → List X → List X → Type 0

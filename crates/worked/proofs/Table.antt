@@ -1,7 +1,7 @@
 -- The whole table by one computed fact, and the statement at each entry from it. Assumes nothing.
 use Rattle.std.proofs.Common.{◌≡◌, List, [], ◌∷◌, map, refl, ap}
 use lib.Count.{ones}
-use Rattle.std.specs.List.{AllByRecursion as All}
+use Rattle.std.specs.List.{AllByRecursion}
 use Rattle.lists.specs.Products.{product}
 use Rattle.model.specs.Bytes.{state_of, state_bytes}
 use Rattle.worked.specs.Entries.{answer}
@@ -16,7 +16,7 @@ tail [] = []
 tail (x ∷ xs) = xs
 
 -- where two functions make the same of a list, they make the same of each of its elements
-all_same : {X Y : Type 0} (f g : X → Y) (xs : List X) → map f xs ≡ map g xs → All (λ x. f x ≡ g x) xs
+all_same : {X Y : Type 0} (f g : X → Y) (xs : List X) → map f xs ≡ map g xs → AllByRecursion (λ x. f x ≡ g x) xs
 unfolding head tail
 all_same f g [] e = tt
 all_same f g (x ∷ xs) e = (ap (head (f x)) e, all_same f g xs (ap tail e))

@@ -1,6 +1,6 @@
 -- The worked examples, as one table.
 use Rattle.std.specs.Prelude.{ℕ, List, [], ◌∷◌, ◌++◌, ℤ, pos, negsuc, Ok, Err}
-use Rattle.std.specs.List.{AllByRecursion as All}
+use Rattle.std.specs.List.{AllByRecursion}
 use Rattle.questions.specs.declared.Side.TheVariants.{Left, Right}
 use Rattle.model.specs.Bytes.{unit_of}
 use Rattle.model.specs.declared.group_set.GroupSet.{GroupSet}
@@ -133,4 +133,4 @@ table =
 
 -- every entry holds
 abbrev pub Examples : Type 0
-Examples = All Holds table
+Examples = AllByRecursion Holds table
