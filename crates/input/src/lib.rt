@@ -1,14 +1,18 @@
 // The start of an input, as far as there is room for it.
 #![tactic(auto)]
 
-ghost use Rattle.std.specs.Prelude.{◌≤◌, length, IfOk};
+ghost use Rattle.std.specs.Prelude.{◌≤◌, ◌<◌, length, take, IfOk};
+ghost use Rattle.std.specs.Io.KnownBytes.{Consumes, IsAtEnd};
 
 use std::io;
 use std::io::Read;
 
-/// Reads until the buffer is full or the input ends, and answers how many bytes are there.
+/// Reads until the buffer is full or the input ends, and answers how many bytes are there. What stands in the buffer behind
+/// them, and what a failed read leaves, is open.
 pub fn fill<R: Read>(input: &mut R, buffer: &mut [u8]) -> io::Result<usize>
-    ensures { IfOk result (λ n. n ≤ length buffer.old) }
+    ensures room { IfOk result (λ n. n ≤ length buffer.new) }
+    ensures bytes { IfOk result (λ n. Consumes (R.Read.remaining input.old) (R.Read.remaining input.new) (take n buffer.new)) }
+    ensures end { IfOk result (λ n. n < length buffer.new → IsAtEnd (R.Read.remaining input.new)) }
 {
     let mut filled = 0;
     while filled < buffer.len() {
