@@ -7,7 +7,7 @@ use questions::Refusal;
 pub const NO_MEMORY: u8 = 255;
 
 /// What a job is answered.
-#[derive(Clone, Copy, PartialEq, Debug)]
+#[derive(Clone, Copy, PartialEq, Eq, Debug)]
 pub enum Answer {
     /// The relation is accepted, with this many pairs.
     Accepted { count: usize },
@@ -34,35 +34,18 @@ impl Answer {
 fn accepted(count: usize) -> [u8; 16]
     ensures { result ≡ accepted_bytes count }
 {
-    let a = (count % 256) as u8;
-    let b = (count / 256 % 256) as u8;
-    let c = (count / 65536 % 256) as u8;
-    let d = (count / 16777216 % 256) as u8;
-    [0, 0, 0, 0, 0, 0, 0, 0, 0, 0, 0, 0, a, b, c, d]
+    let mut bytes = [0; 16];
+    bytes[12..].copy_from_slice(&count.to_le_bytes()[..4]);
+    bytes
 }
 
 fn refused(refusal: Refusal) -> [u8; 16]
     ensures { result ≡ refused_bytes refusal }
 {
-    let low = (refusal.item % 256) as u8;
-    let high = (refusal.item / 256 % 256) as u8;
-    let s = refusal.step.to_le_bytes();
-    [
-        refusal.question,
-        refusal.side.byte(),
-        low,
-        high,
-        s[0],
-        s[1],
-        s[2],
-        s[3],
-        s[4],
-        s[5],
-        s[6],
-        s[7],
-        0,
-        0,
-        0,
-        0,
-    ]
+    let mut bytes = [0; 16];
+    bytes[0] = refusal.question;
+    bytes[1] = refusal.side.byte();
+    bytes[2..4].copy_from_slice(&refusal.item.to_le_bytes()[..2]);
+    bytes[4..12].copy_from_slice(&refusal.step.to_le_bytes());
+    bytes
 }
