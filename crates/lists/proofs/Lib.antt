@@ -8,3 +8,4 @@ pub mod Adding
 pub mod Gathered
 pub mod Kept
 pub mod Mapped
+pub mod Filled
