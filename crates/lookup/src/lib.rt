@@ -3,20 +3,14 @@
 ghost use Rattle.std.specs.Prelude.{◌≡◌, Decides};
 ghost use Rattle.lists.specs.Words.{Stands, FirstOf};
 
-/// A kind of record whose sameness says yes exactly when two records are equal.
-pub trait Same {
-    fn same(&self, other: &Self) -> bool
-        ensures { Decides result (self.now ≡ other.now) };
+/// A kind of value of which `==` says yes exactly for equal ones: no comparison leaves out what tells two values apart.
+pub trait Exact: PartialEq {
+    ghost exact: { (x y : Self) → Decides (Self.PartialEq.eq x y) (x ≡ y) };
 }
 
 /// The number of the first record equal to `wanted`, or none.
-pub fn first_equal<R: Same>(records: &[R], wanted: &R) -> Option<usize>
+pub fn first_equal<R: Exact>(records: &[R], wanted: &R) -> Option<usize>
     ensures { FirstOf (Stands records.now wanted.now) result }
 {
-    for (i, record) in records.iter().enumerate() {
-        if record.same(wanted) {
-            return Some(i);
-        }
-    }
-    None
+    records.iter().position(|record| *record == *wanted)
 }

@@ -2,7 +2,7 @@
 use Rattle.std.proofs.Common.{◌≡◌, ℕ, true, false, ◌&&◌, List, [], ◌∷◌, ℤ, ◌≤ℤ◌, Decides, sym, refl, ap, arith}
 use lib.Signed.{le_z}
 use Rattle.std.proofs.lemmas.Int.{ints}
-use Rattle.std.proofs.lemmas.Bool.Decides.{Decides-and, Decides-eqb, Decides-int_eq, Decides-like}
+use Rattle.std.proofs.lemmas.Bool.Decides.{Decides-and, Decides-eqb, Decides-like}
 use Rattle.std.proofs.lemmas.Bool.{and_parts, and_from}
 use Rattle.model.specs.declared.group_set.GroupSet.{GroupSet}
 use Rattle.model.specs.declared.label.Label.{Label}
@@ -10,7 +10,6 @@ use Rattle.model.specs.declared.label.Label.TheVariants.{Silent, Movement, Broad
 use Rattle.model.specs.declared.state.Pair.{Pair}
 use Rattle.model.specs.declared.state.State.{State}
 use Rattle.model.specs.declared.unit_state.UnitState.{UnitState}
-use Rattle.model.specs.UnitEq.{unit_eq}
 use Rattle.model.specs.Alike.{same_value, same_set, same_unit, same_units, same_state, same_pair, same_label}
 
 pub le_z_le : (v w : ℤ) → le_z v w ≡ true → v ≤ℤ w
@@ -45,14 +44,6 @@ decides_unit u w =
     Decides-like (same_unit u w) (λ h. unit_alike _ _ _ _ _ _ _ _ h.0 h.1.0 h.1.1.0 h.1.1.1)
     (λ e. (ap (λ (x : UnitState). x.location) e, (ap (λ (x : UnitState). x.first) e, (ap (λ (x : UnitState). x.second) e, ap (λ (x : UnitState). x.groups) e))))
     (Decides-and _ _ (Decides-eqb u.location w.location) (Decides-and _ _ (decides_value u.first w.first) (Decides-and _ _ (decides_value u.second w.second) (decides_set u.groups w.groups))))
-
--- what `==` answers at units decides equality
-pub decides_eq : (u w : UnitState) → Decides (unit_eq u w) (u ≡ w)
-decides_eq u w =
-    Decides-like (unit_eq u w)
-    (λ h. unit_alike _ _ _ _ _ _ u.groups w.groups h.0 h.1.0 h.1.1.0 (ap (λ n. record { bits = n }) h.1.1.1))
-    (λ e. (ap (λ (x : UnitState). x.location) e, (ap (λ (x : UnitState). x.first) e, (ap (λ (x : UnitState). x.second) e, ap (λ (x : UnitState). x.groups.bits) e))))
-    (Decides-and _ _ (Decides-eqb u.location w.location) (Decides-and _ _ (Decides-int_eq u.first w.first) (Decides-and _ _ (Decides-int_eq u.second w.second) (Decides-eqb u.groups.bits w.groups.bits))))
 
 clash : false ≡ true → ⊥
 clash e = let z : ◌≡◌ {A = ℕ} 0 1 = cc in omega arith

@@ -1,11 +1,11 @@
 -- Bytes and what they stand for. Assumes nothing.
-use Rattle.std.proofs.Common.{◌≡◌, ℕ, ◌+◌, ◌*◌, ◌<◌, ◌≤◌, ◌≢◌, List, [], ◌∷◌, ◌++◌, length, get_or, take, drop, set, ℤ, sym, refl, ap, ◌∙◌, add-zero, arith, lit<, below_more}
+use Rattle.std.proofs.Common.{◌≡◌, ℕ, ◌+◌, ◌*◌, ◌<◌, List, [], ◌∷◌, ◌++◌, length, get_or, take, drop, ℤ, sym, refl, ap, ◌∙◌, arith, lit<, below_more}
 use Rattle.std.specs.List.{flat_map}
 use Rattle.std.proofs.lemmas.List.FromFn.{fill_by_all}
 use Rattle.std.proofs.Concat.{flat_map-take_more}
 use Rattle.std.proofs.lemmas.Slice.{take-put_mid}
 use borrow.Rule.Slice.PartMut.{put_mid}
-use Rattle.std.proofs.lemmas.List.{length-set, length-take, length-drop, length-append, take_all, take_at, take-append-drop, drop_at, drop_all, append-nil, get_or-take, get_or-drop, get_or-set_same, get_or-set_other}
+use Rattle.std.proofs.lemmas.List.{length-take, length-drop, length-append, take_all, take_at, take-append-drop, drop_at, drop_all, append-nil}
 use Rattle.lists.proofs.Records.{joined_cut}
 use Rattle.model.specs.declared.unit_state.UnitState.{UnitState}
 use Rattle.model.specs.declared.state.State.{State}
@@ -29,35 +29,11 @@ unit_back b u v u' v' n p q e f =
     ∙ ap (λ k. get_or b 0 0 ∷ get_or b 1 0 ∷ k ∷ get_or b 3 0 ∷ []) (ap byte_of q ∙ f)
     ∙ four_elements b n
 
--- four bytes of the list from i on, as code reads them one by one
-four_at : (b : List ℕ) (i : ℕ) → i + 4 ≤ length b → get_or b i 0 ∷ get_or b (i + 1) 0 ∷ get_or b (i + 2) 0 ∷ get_or b (i + 3) 0 ∷ [] ≡ take 4 (drop i b)
-four_at b i h =
-    let n : length (take 4 (drop i b)) ≡ 4 = simp (length-take, length-drop) (omega arith) in
-    let z : get_or b i 0 ≡ get_or (take 4 (drop i b)) 0 0 = sym (get_or-take 4 (drop i b) 0 0 (lit< tt) ∙ get_or-drop i b 0 0 ∙ ap (λ k. get_or b k 0) (add-zero i)) in
-    let o : get_or b (i + 1) 0 ≡ get_or (take 4 (drop i b)) 1 0 = sym (get_or-take 4 (drop i b) 1 0 (lit< tt) ∙ get_or-drop i b 1 0) in
-    let t : get_or b (i + 2) 0 ≡ get_or (take 4 (drop i b)) 2 0 = sym (get_or-take 4 (drop i b) 2 0 (lit< tt) ∙ get_or-drop i b 2 0) in
-    let r : get_or b (i + 3) 0 ≡ get_or (take 4 (drop i b)) 3 0 = sym (get_or-take 4 (drop i b) 3 0 (lit< tt) ∙ get_or-drop i b 3 0) in
-    let e = four_elements (take 4 (drop i b)) n in
-    cc
-
 -- the first k units are read from the bytes
 pub record Reading (bytes : List ℕ) (k : ℕ) (units : List UnitState) : Type 0 where
   pub six : length units ≡ 6
   pub is : (j : ℕ) → j < k → get_or units j zero_unit ≡ unit_of (take 4 (drop (4 * j) bytes))
   pub back : (j : ℕ) → j < k → unit_bytes (get_or units j zero_unit) ≡ take 4 (drop (4 * j) bytes)
-
-pub reading_more : (bytes : List ℕ) (k : ℕ) (units : List UnitState) (u : UnitState) → length bytes ≡ 24 → k < 6 → Reading bytes k units
-    → u ≡ unit_of (get_or bytes (4 * k) 0 ∷ get_or bytes (4 * k + 1) 0 ∷ get_or bytes (4 * k + 2) 0 ∷ get_or bytes (4 * k + 3) 0 ∷ [])
-    → unit_bytes u ≡ get_or bytes (4 * k) 0 ∷ get_or bytes (4 * k + 1) 0 ∷ get_or bytes (4 * k + 2) 0 ∷ get_or bytes (4 * k + 3) 0 ∷ []
-    → Reading bytes (k + 1) (set units k u)
-reading_more bytes k units u n h r is back =
-    let e = four_at bytes (4 * k) (omega (arith, n)) in
-    let here = get_or-set_same units k u zero_unit (omega (arith, r.six)) in
-    record {
-      six = length-set units k u ∙ r.six;
-      is = below_more _ _ (λ j l. let ne : j ≢ k = omega arith in get_or-set_other units k j u zero_unit ne ∙ r.is j l) (here ∙ is ∙ ap unit_of e);
-      back = below_more _ _ (λ j l. let ne : j ≢ k = omega arith in ap unit_bytes (get_or-set_other units k j u zero_unit ne) ∙ r.back j l) (ap unit_bytes here ∙ back ∙ e);
-    }
 
 pub state_read : (bytes : List ℕ) (units : List UnitState) → Reading bytes 6 units → ◌≡◌ {A = State} (record { units = units }) (state_of bytes)
 unfolding state_of

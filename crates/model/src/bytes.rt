@@ -1,10 +1,11 @@
-ghost use Rattle.std.specs.Prelude.{◌≡◌, length};
+ghost use Rattle.std.specs.Prelude.{◌≡◌, ◌+◌, ◌*◌, ◌≤◌, length, take, drop};
 ghost use Rattle.model.specs.Bytes.{unit_of, unit_bytes, state_of, state_bytes, pair_of, pair_bytes};
 
 use crate::group_set::GroupSet;
 use crate::state::{Pair, State};
-use crate::unit_state::{UNITS, UnitState};
+use crate::unit_state::UnitState;
 use crate::value::{byte_of, value_of};
+use std::array::from_fn;
 
 impl UnitState {
     /// The unit state in four bytes: location, first register, second register, group set.
@@ -33,23 +34,25 @@ impl UnitState {
     }
 }
 
+/// The unit with the number `k` among those whose bytes stand one after the other.
+fn read_unit(bytes: &[u8], k: usize) -> UnitState
+    requires { 4 * k + 4 ≤ length bytes.now }
+    ensures is { result ≡ unit_of (take 4 (drop (4 * k) bytes.now)) }
+    ensures back { unit_bytes result ≡ take 4 (drop (4 * k) bytes.now) }
+{
+    let at = 4 * k;
+    UnitState::from_bytes([bytes[at], bytes[at + 1], bytes[at + 2], bytes[at + 3]])
+}
+
 /// The state in 24 bytes.
 fn read_state(bytes: &[u8]) -> State
     requires { length bytes.now ≡ 24 }
     ensures is { result ≡ state_of bytes.now }
     ensures back { state_bytes result ≡ bytes.now }
 {
-    let mut units = [UnitState {
-        location: 0,
-        first: 0,
-        second: 0,
-        groups: GroupSet { bits: 0 },
-    }; UNITS];
-    for k in 0..UNITS {
-        let at = 4 * k;
-        units[k] = UnitState::from_bytes([bytes[at], bytes[at + 1], bytes[at + 2], bytes[at + 3]]);
+    State {
+        units: from_fn(|k| read_unit(bytes, k)),
     }
-    State { units }
 }
 
 impl State {
@@ -66,9 +69,9 @@ impl State {
         ensures back { state_of result ≡ self.now }
     {
         let mut bytes = [0; 24];
-        for k in 0..UNITS {
+        for (k, unit) in self.units.iter().enumerate() {
             let at = 4 * k;
-            bytes[at..at + 4].copy_from_slice(&self.units[k].to_bytes());
+            bytes[at..at + 4].copy_from_slice(&unit.to_bytes());
         }
         bytes
     }

@@ -2,7 +2,7 @@ ghost use Rattle.std.specs.Prelude.{◌≡◌, ℕ, true, false, ◌&&◌, ◌||
 ghost use Rattle.model.specs.GroupSets.{has, linked, part, union_of, empty, groups_of, group_count};
 
 /// A set of the groups 0 to 7: bit g, of weight 2^g, stands for group g.
-#[derive(Clone, Copy, Debug)]
+#[derive(Clone, Copy, PartialEq, Eq, Default, Debug)]
 pub struct GroupSet {
     pub bits: u8,
 }

@@ -2,7 +2,7 @@ use crate::group_set::GroupSet;
 use crate::value::Value;
 
 /// What is seen of a step.
-#[derive(Clone, Copy, Debug)]
+#[derive(Clone, Copy, PartialEq, Eq, Debug)]
 pub enum Label {
     Silent,
     Movement,

@@ -5,7 +5,9 @@ ghost use Rattle.model.specs.Placements.{sets_of, units_asked, units_refusal};
 use crate::group_set::GroupSet;
 use crate::placement::{BadUnitCount, Placement};
 use crate::unit_state::UNITS;
-use questions::{Refusal, Side};
+use questions::Refusal;
+use std::error::Error;
+use std::fmt;
 
 impl Placement {
     /// The placement of the first `units` slots, or a refusal with question 5.
@@ -13,7 +15,7 @@ impl Placement {
         ensures refuses { refusal_of units_refusal result ≡ first_no (units_asked units) }
         ensures makes { IfOk result (λ p. sets_of p ≡ take units slots) }
     {
-        if 1 <= units && units <= UNITS {
+        if (1..=UNITS).contains(&units) {
             Ok(Placement { units, slots })
         } else {
             Err(BadUnitCount)
@@ -32,11 +34,14 @@ impl BadUnitCount {
     pub fn refusal(&self) -> Refusal
         ensures { Some result ≡ units_refusal self.now }
     {
-        Refusal {
-            question: 5,
-            side: Side::Left,
-            item: 0,
-            step: 0,
-        }
+        Refusal::of(5, 0)
     }
 }
+
+impl fmt::Display for BadUnitCount {
+    fn fmt<W: fmt::Write>(&self, f: &mut fmt::Formatter<W>) -> fmt::Result {
+        write!(f, "there are not 1 to 6 units")
+    }
+}
+
+impl Error for BadUnitCount {}

@@ -3,7 +3,7 @@ ghost use Rattle.std.specs.Prelude.{◌≤ℤ◌};
 use crate::value::Value;
 
 /// The values from `lo` to `hi`. Every range keeps `lo <= hi`.
-#[derive(Clone, Copy, Debug)]
+#[derive(Clone, Copy, PartialEq, Eq, Debug)]
 pub struct Range {
     pub lo: Value,
     pub hi: Value,

@@ -4,7 +4,9 @@ ghost use Rattle.model.specs.Ranges.{in_range, range_asked, range_refusal};
 
 use crate::range::{Backward, Range};
 use crate::value::Value;
-use questions::{Refusal, Side};
+use questions::Refusal;
+use std::error::Error;
+use std::fmt;
 
 impl Range {
     /// The range from `lo` to `hi`, or a refusal with question 1.
@@ -31,11 +33,14 @@ impl Backward {
     pub fn refusal(&self) -> Refusal
         ensures { Some result ≡ range_refusal self.now }
     {
-        Refusal {
-            question: 1,
-            side: Side::Left,
-            item: 0,
-            step: 0,
-        }
+        Refusal::of(1, 0)
     }
 }
+
+impl fmt::Display for Backward {
+    fn fmt<W: fmt::Write>(&self, f: &mut fmt::Formatter<W>) -> fmt::Result {
+        write!(f, "the range's lowest value is above its highest")
+    }
+}
+
+impl Error for Backward {}

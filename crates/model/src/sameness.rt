@@ -1,33 +1,29 @@
+// Nothing that tells two of these apart is left out of a comparison.
+ghost use Rattle.std.proofs.Common.{rules};
+ghost use Rattle.model.specs.Exactly.{state_exact, pair_exact};
+
+use crate::group_set::GroupSet;
 use crate::label::Label;
 use crate::state::{Pair, State};
-use lookup::Same;
+use crate::unit_state::UnitState;
+use lookup::Exact;
 
-impl Same for State {
-    fn same(&self, other: &State) -> bool {
-        self.units == other.units
-    }
+impl Exact for GroupSet {
+    ghost exact = { Prim.search rules };
 }
 
-impl Same for Pair {
-    fn same(&self, other: &Pair) -> bool {
-        self.left.same(&other.left) && self.right.same(&other.right)
-    }
+impl Exact for UnitState {
+    ghost exact = { Prim.search rules };
 }
 
-impl Same for Label {
-    fn same(&self, other: &Label) -> bool {
-        match (*self, *other) {
-            (Label::Silent, Label::Silent) => true,
-            (Label::Movement, Label::Movement) => true,
-            (
-                Label::Broadcast { groups, value },
-                Label::Broadcast {
-                    groups: g,
-                    value: v,
-                },
-            ) => { groups.bits == g.bits && value == v }
-            (Label::Receive { groups }, Label::Receive { groups: g }) => groups.bits == g.bits,
-            _ => false,
-        }
-    }
+impl Exact for State {
+    ghost exact = { state_exact (Prim.search rules) };
+}
+
+impl Exact for Pair {
+    ghost exact = { pair_exact (Prim.search rules) };
+}
+
+impl Exact for Label {
+    ghost exact = { Prim.search rules };
 }

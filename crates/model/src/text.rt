@@ -7,15 +7,12 @@ use std::fmt;
 /// As `{0, 3}`.
 impl fmt::Display for GroupSet {
     fn fmt<W: fmt::Write>(&self, f: &mut fmt::Formatter<W>) -> fmt::Result {
-        let mut first = true;
         write!(f, "{{")?;
+        let mut separator = "";
         for group in 0..8u8 {
             if (self.bits >> group) & 1 == 1 {
-                if !first {
-                    write!(f, ", ")?;
-                }
-                write!(f, "{group}")?;
-                first = false;
+                write!(f, "{separator}{group}")?;
+                separator = ", ";
             }
         }
         write!(f, "}}")
@@ -25,11 +22,11 @@ impl fmt::Display for GroupSet {
 /// As `(2, -2, 0, {0})`: location, first register, second register, groups.
 impl fmt::Display for UnitState {
     fn fmt<W: fmt::Write>(&self, f: &mut fmt::Formatter<W>) -> fmt::Result {
-        let location = self.location;
-        let first = self.first;
-        let second = self.second;
-        let groups = self.groups;
-        write!(f, "({location}, {first}, {second}, {groups})")
+        write!(
+            f,
+            "({}, {}, {}, {})",
+            self.location, self.first, self.second, self.groups
+        )
     }
 }
 

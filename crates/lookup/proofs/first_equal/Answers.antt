@@ -1,17 +1,12 @@
-use Rattle.std.proofs.Common.{◌≡◌, ℕ, length, Some, refl, ap, ◌∙◌, arith, below_more}
-use Rattle.std.proofs.lemmas.Option.{slice_get_read}
-use Rattle.lists.proofs.Places.{some_same, nth_within}
+use Rattle.std.proofs.Common.{rules, tests}
+use Rattle.std.proofs.lemmas.Iterator.{YieldsList-from_slice}
+use Rattle.std.proofs.lemmas.Iterator.Search.{position_from_yields_List}
+use Rattle.lookup.proofs.Finding.{first_found}
 use Rattle.lookup.proofs.first_equal.Goals as goal
 
-pub returns-then-same : goal.returns-then-same
-returns-then-same g c =
-    let at = slice_get_read c.args.records.now (length c.args.records.now) c.loop-i.i _ refl c.loop-i-test.true c.index-records-i.is in
-    (at ∙ ap Some (c.if-same.ensures.0 refl), c.loop-i.invariant)
-
-pub loop-i-preserved : goal.loop-i-preserved
-loop-i-preserved g c =
-    let at = slice_get_read c.args.records.now (length c.args.records.now) c.loop-i.i _ refl c.loop-i-test.true c.index-records-i.is in
-    below_more _ _ c.loop-i.invariant (λ stands. let e = c.same.ensures.1 (some_same _ _ _ at stands) in let z : ◌≡◌ {A = ℕ} 0 1 = cc in omega arith)
-
 pub returns : goal.returns
-returns g c k stands = let h = nth_within _ k _ stands in c.loop-i.invariant k (omega arith) stands
+returns g c =
+    let eq = g.R.PartialEq.eq in
+    let w = c.args.wanted.now in
+    first_found w (λ x. eq x w) (λ x. g.met.R.Exact.exact x w) c.args.records.now _
+    (position_from_yields_List (λ x. eq x w) _ _ c.position.result c.position.ensures.ran (YieldsList-from_slice c.args.records.now cc) (λ x b q k. search (rules, tests)))

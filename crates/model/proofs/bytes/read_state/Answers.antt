@@ -1,13 +1,16 @@
-use Rattle.std.proofs.Common.{◌≡◌, ℕ, subst, arith}
-use Rattle.model.proofs.Layouts.{Reading, reading_more, state_read, state_back}
+use Rattle.std.proofs.Common.{◌≡◌, ◌*◌, take, drop, rules, tests}
+use Rattle.lists.proofs.Filled.{filled_with}
+use Rattle.model.specs.Bytes.{unit_of, unit_bytes}
+use Rattle.model.proofs.Layouts.{Reading, state_read, state_back}
 use Rattle.model.proofs.bytes.read_state.Goals as goal
-
-pub loop-k-preserved : goal.loop-k-preserved
-loop-k-preserved c =
-    reading_more c.args.bytes.now c.loop-k.k c.loop-k.units _ c.requires c.loop-k-test.true c.loop-k.invariant c.from_bytes.ensures.is c.from_bytes.ensures.back
 
 pub returns : goal.returns
 returns c =
-    let e : c.loop-k.k ≡ 6 = omega arith in
-    let r = subst (λ (k : ℕ). Reading c.args.bytes.now k c.loop-k.units) e c.loop-k.invariant in
-    record { is = state_read c.args.bytes.now c.loop-k.units r; back = state_back c.args.bytes.now c.loop-k.units c.requires r }
+    let bytes = c.args.bytes.now in
+    let r : Reading bytes 6 c.from_fn.result =
+        record {
+          six = c.from_fn.ensures.items.long;
+          is = λ j h. filled_with _ _ (λ j y. y ≡ unit_of (take 4 (drop (4 * j) bytes))) c.from_fn.result 6 (λ j y q h k. search (rules, tests)) c.from_fn.ensures.items j _ h;
+          back = λ j h. filled_with _ _ (λ j y. unit_bytes y ≡ take 4 (drop (4 * j) bytes)) c.from_fn.result 6 (λ j y q h k. search (rules, tests)) c.from_fn.ensures.items j _ h;
+        } in
+    record { is = state_read bytes c.from_fn.result r; back = state_back bytes c.from_fn.result c.requires r }
