@@ -102,7 +102,7 @@ pub fn payloads(bytes: &[u8], kind: Kind, side: Side) -> Payloads
     ensures { Kept (side_bytes kind side bytes.now) result }
 {
     let kind_byte = kind.byte();
-    let side_byte = side.byte();
+    let side_byte = u8::from(side);
     let width = kind.width();
     let mut all = Payloads {
         len: 0,

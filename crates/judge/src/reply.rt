@@ -5,7 +5,7 @@ ghost use Rattle.judge.specs.Comparing.{meant, OneRange, label_on, opposed, step
 ghost use Rattle.judge.specs.Likeness.{LandsAt, Reply};
 
 use crate::comparison::{Comparison, opposite, pair_from};
-use lookup::{Same, first_equal};
+use lookup::first_equal;
 use model::label::Label;
 use model::state::Pair;
 use model::value::Value;
@@ -62,7 +62,7 @@ impl<L: System, R: System> Comparison<'_, L, R> {
         let Some(other) = self.label(opposite(side), pair, reply) else {
             return false;
         };
-        if !label.same(&other) {
+        if *label != other {
             return false;
         }
         if is_receive(label) {

@@ -1,5 +1,4 @@
 use crate::at_most::AtMost;
-use lookup::Same;
 use model::group_set::GroupSet;
 use model::label::Label;
 use model::range::Range;
@@ -65,7 +64,7 @@ fn is_step(
         network.label(state, step),
         network.landing(state, step, value),
     ) {
-        (Some(label), Some(landing)) => label.same(&expected) && landing.same(to),
+        (Some(label), Some(landing)) => label == expected && landing == *to,
         _ => false,
     }
 }

@@ -1,21 +1,20 @@
 ghost use Rattle.std.specs.Prelude.{◌≡◌};
+ghost use Rattle.std.proofs.Common.{rules};
 ghost use Rattle.rules.specs.Places.{place_of};
 
-use lookup::Same;
+use lookup::Exact;
 use model::group_set::GroupSet;
 use tables::{BadRecord, Layout};
 
 /// A parking record: this unit may sit on this set.
-#[derive(Clone, Copy, Debug)]
+#[derive(Clone, Copy, PartialEq, Eq, Debug)]
 pub struct Place {
     pub unit: usize,
     pub set: GroupSet,
 }
 
-impl Same for Place {
-    fn same(&self, other: &Place) -> bool {
-        self.unit == other.unit && self.set.bits == other.set.bits
-    }
+impl Exact for Place {
+    ghost exact = { Prim.search rules };
 }
 
 /// Two bytes: unit 0 to 5, set. At most 48 of them.

@@ -1,7 +1,6 @@
 use crate::fault::SheetFault;
 use crate::sheet::Sheet;
 use crate::states::state_at;
-use lookup::Same;
 use model::group_set::GroupSet;
 use model::label::Label;
 use model::range::Range;
@@ -23,14 +22,14 @@ const FEWER: [u8; 18] = [0, 3, 1, 0, 1, 1, 0, 3, 1, 0, 2, 2, 1, 2, 1, 0xFE, 2, 2
 
 fn has_label(sheet: &Sheet, from: u8, step: u64, expected: Label) -> bool {
     match sheet.label(&state_at(from), step) {
-        Some(label) => label.same(&expected),
+        Some(label) => label == expected,
         None => false,
     }
 }
 
 fn lands(sheet: &Sheet, from: u8, step: u64, value: Value, to: u8) -> bool {
     match sheet.landing(&state_at(from), step, value) {
-        Some(landing) => landing.same(&state_at(to)),
+        Some(landing) => landing == state_at(to),
         None => false,
     }
 }

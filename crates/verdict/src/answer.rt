@@ -44,7 +44,7 @@ fn refused(refusal: Refusal) -> [u8; 16]
 {
     let mut bytes = [0; 16];
     bytes[0] = refusal.question;
-    bytes[1] = refusal.side.byte();
+    bytes[1] = u8::from(refusal.side);
     bytes[2..4].copy_from_slice(&refusal.item.to_le_bytes()[..2]);
     bytes[4..12].copy_from_slice(&refusal.step.to_le_bytes());
     bytes
