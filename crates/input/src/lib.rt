@@ -14,13 +14,13 @@ pub fn fill<R: Read>(input: &mut R, buffer: &mut [u8]) -> io::Result<usize>
     ensures bytes { IfOk result (λ n. Consumes (R.Read.remaining input.old) (R.Read.remaining input.new) (take n buffer.new)) }
     ensures end { IfOk result (λ n. n < length buffer.new → IsAtEnd (R.Read.remaining input.new)) }
 {
+    // by hand, since read_exact wants a full buffer, and read_to_end asks for memory
     let mut filled = 0;
     while filled < buffer.len() {
-        let count = input.read(&mut buffer[filled..])?;
-        if count == 0 {
-            break;
+        match input.read(&mut buffer[filled..])? {
+            0 => break,
+            count => filled += count,
         }
-        filled += count;
     }
     Ok(filled)
 }
