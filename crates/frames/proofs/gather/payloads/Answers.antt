@@ -12,4 +12,4 @@ loop-k-preserved c =
 
 pub returns : goal.returns
 returns c =
-    gathered_all c.args.kind c.args.side _ _ _ c.loop-k.k c.args.bytes.now c.loop-k.all c.byte-kind_byte.ensures c.byte-side_byte.ensures c.width-width.ensures c.loop-k-test.false c.loop-k.invariant
+    gathered_all c.args.kind c.args.side _ _ _ c.loop-k.k c.args.bytes.now c.loop-k.all c.byte-kind_byte.ensures c.from-side_byte.ensures c.width-width.ensures c.loop-k-test.false c.loop-k.invariant
