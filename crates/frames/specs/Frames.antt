@@ -1,25 +1,36 @@
 -- The frame of a job's input: its length, and what each record is by its kind, side, position and zeros.
-use Rattle.std.specs.Prelude.{ℕ, ◌%◌, Bool, false, cond, ◌&&◌, List, ◌∷◌, length, drop, Some, Option, ◌==◌, nat_eq, nat_le, nat_lt, slice_index}
-use Rattle.lists.specs.Words.{every, records}
+use Rattle.std.specs.Prelude.{ℕ, ◌+◌, ◌%◌, Bool, false, ◌&&◌, List, ◌∷◌, length, drop, Some, Option, Ok, Err, Result, ◌==◌, nat_le, nat_lt, slice_index}
+use Rattle.std.specs.List.{list_all}
+use Rattle.lists.specs.Words.{records}
 use Rattle.questions.specs.Asking.{Question, put, ask, numbered, refuse, refuse_at}
 use Rattle.questions.specs.declared.Refusal.{Refusal}
+use Rattle.frames.specs.Kinds.{kind_of, width_of}
+use Rattle.frames.specs.declared.kind.Kind.{Kind}
+use Rattle.frames.specs.declared.kind.Kind.TheVariants.{Setting, Row, Link, Pair}
+use Rattle.frames.specs.declared.kind.NoKind.{NoKind}
 use Rattle.frames.specs.declared.frame.FrameFault.{FrameFault}
 use Rattle.frames.specs.declared.frame.FrameFault.TheVariants.{Length, Record}
 
 -- the bytes from n on are zero
 abbrev pub zero_from : ℕ → List ℕ → Bool
-zero_from n r = every (λ b. nat_eq b 0) (drop n r)
+zero_from n r = list_all (λ b. b == 0) (drop n r)
 
--- a record of the kind 2 (row), 3 (link) or 4 (pair, on the left side), with zeros after its payload
-abbrev pub item_framed : ℕ → ℕ → List ℕ → Bool
-item_framed kind side r =
-    cond (kind == 2) (nat_le side 1 && zero_from 18 r)
-    (cond (kind == 3) (nat_le side 1 && zero_from 5 r)
-    (cond (kind == 4) (side == 0 && zero_from 50 r) false))
+-- may the record k have this kind and side? Records 0 and 1 are the settings of the left and the right side; a pair stands
+-- on the left side
+abbrev pub placed : Kind → ℕ → ℕ → Bool
+placed Setting side k = nat_lt k 2 && side == k
+placed Row side k = nat_le 2 k && nat_le side 1
+placed Link side k = nat_le 2 k && nat_le side 1
+placed Pair side k = nat_le 2 k && side == 0
 
--- the record k has its kind, side, position and zeros: records 0 and 1 are the settings of the left and the right side, kind 1
+-- the record k is one of this kind, with its side, position, and zeros after its payload
+abbrev pub framed_as : Result Kind NoKind → ℕ → List ℕ → Bool
+framed_as (Ok kind) k r = placed kind (slice_index r 1) k && zero_from (2 + width_of kind) r
+framed_as (Err e) k r = false
+
+-- the record k has its kind, side, position and zeros
 abbrev pub framed : ℕ → List ℕ → Bool
-framed k r = cond (nat_lt k 2) (slice_index r 0 == 1 && (slice_index r 1 == k && zero_from 7 r)) (item_framed (slice_index r 0) (slice_index r 1) r)
+framed k r = framed_as (kind_of (slice_index r 0)) k r
 
 -- question 23 of the record k
 abbrev pub frame_asked : ℕ → List ℕ → List (Question Refusal)

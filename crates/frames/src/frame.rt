@@ -1,9 +1,14 @@
-ghost use Rattle.std.specs.Prelude.{◌≡◌, ◌+◌, ◌*◌, ◌/◌, ◌<◌, true, length};
-ghost use Rattle.lists.specs.Words.{Stands, records};
+ghost use Rattle.std.specs.Prelude.{◌≡◌, ◌==◌};
+ghost use Rattle.std.specs.List.{list_all};
+ghost use Rattle.lists.specs.Words.{records};
 ghost use Rattle.questions.specs.Asking.{first_no, refusal_of};
-ghost use Rattle.frames.specs.Frames.{zero_from, framed, frames_asked, frame_refusal, frame_refusal_of};
+ghost use Rattle.questions.specs.Sides.{side_byte};
+ghost use Rattle.frames.specs.Frames.{placed, framed, frames_asked, frame_refusal, frame_refusal_of};
 
+use crate::kind::Kind;
 use questions::{Refusal, Side};
+use std::error::Error;
+use std::fmt;
 
 /// How many bytes a record has.
 pub const RECORD: usize = 64;
@@ -27,59 +32,59 @@ impl FrameFault {
         ensures { result ≡ frame_refusal self.now }
     {
         match *self {
-            FrameFault::Length => Refusal {
-                question: 22,
-                side: Side::Left,
-                item: 0,
-                step: 0,
-            },
-            FrameFault::Record { number } => Refusal {
-                question: 23,
-                side: Side::Left,
-                item: number,
-                step: 0,
-            },
+            FrameFault::Length => Refusal::of(22, 0),
+            FrameFault::Record { number } => Refusal::of(23, number),
         }
     }
 }
 
-/// The bytes of the record with the number `k`.
-pub(crate) fn nth_record(bytes: &[u8], k: usize) -> &[u8]
-    requires { k < length bytes.now / 64 }
-    ensures at { Stands (records 64 bytes.now) result.now k }
-    ensures len { length result.now ≡ 64 }
-{
-    let start = RECORD * k;
-    &bytes[start..start + RECORD]
-}
-
-/// Whether the bytes from `start` on are zero.
-fn is_zero_from(bytes: &[u8], start: usize) -> bool
-    requires { start < length bytes.now }
-    ensures { result ≡ zero_from start bytes.now }
-{
-    for byte in &bytes[start..] {
-        if *byte != 0 {
-            return false;
+impl fmt::Display for FrameFault {
+    fn fmt<W: fmt::Write>(&self, f: &mut fmt::Formatter<W>) -> fmt::Result {
+        match self {
+            FrameFault::Length => write!(
+                f,
+                "the length is no multiple of {RECORD} from {SHORTEST} to {LONGEST}"
+            ),
+            FrameFault::Record { number } => write!(f, "record {number} is not framed"),
         }
     }
-    true
+}
+
+impl Error for FrameFault {}
+
+/// The whole records of an input.
+#[tactic(auto, using(crate::proofs::Cut::chunks_cut))]
+pub(crate) fn records(bytes: &[u8]) -> &[[u8; RECORD]]
+    ensures { result.now ≡ records 64 bytes.now }
+{
+    bytes.as_chunks().0
+}
+
+fn is_zero(bytes: &[u8]) -> bool
+    ensures { result ≡ list_all (λ b. b == 0) bytes.now }
+{
+    bytes.iter().all(|byte| *byte == 0)
+}
+
+/// Whether a record of this kind and side may have this number.
+fn is_placed(kind: Kind, side: Side, number: usize) -> bool
+    ensures { result ≡ placed kind (side_byte side) number }
+{
+    matches!(
+        (number, kind, side),
+        (0, Kind::Setting, Side::Left)
+            | (1, Kind::Setting, Side::Right)
+            | (2.., Kind::Row | Kind::Link, _)
+            | (2.., Kind::Pair, Side::Left)
+    )
 }
 
 /// Whether a record has its kind, side, position and zeros.
-fn is_framed(item: &[u8], number: usize) -> bool
-    requires { length item.now ≡ 64 }
+fn is_framed(item: &[u8; RECORD], number: usize) -> bool
     ensures { result ≡ framed number item.now }
 {
-    let kind = item[0];
-    let side = usize::from(item[1]);
-    if number < 2 {
-        return kind == 1 && side == number && is_zero_from(item, 7);
-    }
-    match kind {
-        2 => side <= 1 && is_zero_from(item, 18),
-        3 => side <= 1 && is_zero_from(item, 5),
-        4 => side == 0 && is_zero_from(item, 50),
+    match (Kind::try_from(item[0]), Side::try_from(item[1])) {
+        (Ok(kind), Ok(side)) => is_placed(kind, side, number) && is_zero(&item[2 + kind.width()..]),
         _ => false,
     }
 }
@@ -88,12 +93,12 @@ fn is_framed(item: &[u8], number: usize) -> bool
 pub fn check(bytes: &[u8]) -> Result<(), FrameFault>
     ensures { refusal_of frame_refusal_of result ≡ first_no (frames_asked bytes.now) }
 {
-    if bytes.len() % RECORD != 0 || bytes.len() < SHORTEST || bytes.len() > LONGEST {
+    if bytes.len() % RECORD != 0 || !(SHORTEST..=LONGEST).contains(&bytes.len()) {
         return Err(FrameFault::Length);
     }
-    for k in 0..bytes.len() / RECORD {
-        if !is_framed(nth_record(bytes, k), k) {
-            return Err(FrameFault::Record { number: k });
+    for (number, item) in records(bytes).iter().enumerate() {
+        if !is_framed(item, number) {
+            return Err(FrameFault::Record { number });
         }
     }
     Ok(())

@@ -1,74 +1,41 @@
-ghost use Rattle.std.specs.Prelude.{◌≡◌, ℕ, ◌^◌, ◌<◌, ◌≤◌, ◌&&◌, List, ◌++◌, length, take, drop, IfOk, MatchOption, ◌==◌, slice_index};
+ghost use Rattle.std.specs.Prelude.{◌≡◌, ◌<◌, ◌≤◌, length, MatchOption, IfOk, slice_index};
 ghost use Rattle.model.specs.Bytes.{pair_of};
-ghost use Rattle.frames.specs.Payloads.{kind_byte, width_of, side_bytes, setting_at, setting_of, relation_of, Kept};
+ghost use Rattle.frames.specs.declared.kind.Kind.TheVariants.{Pair as PairKind};
+ghost use Rattle.frames.specs.Kinds.{width_of};
+ghost use Rattle.frames.specs.Payloads.{of_kind, payload_of, side_bytes, setting_at, setting_of, relation_of};
 
-use crate::frame::{RECORD, nth_record};
-use crate::payloads::{Kind, Payloads, ROOM};
+use crate::frame::{RECORD, records};
+use crate::kind::Kind;
 use crate::setting::Setting;
+use arrayvec::ArrayVec;
 use model::group_set::GroupSet;
 use model::state::Pair;
 use model::value::value_of;
 use questions::Side;
 use std::alloc::{AllocError, Global};
 
-impl Kind {
-    fn byte(self) -> u8
-        ensures { result ≡ kind_byte self }
-    {
-        match self {
-            Kind::Row => 2,
-            Kind::Link => 3,
-        }
-    }
-
-    fn width(self) -> usize
-        ensures { result ≡ width_of self }
-    {
-        match self {
-            Kind::Row => 16,
-            Kind::Link => 3,
-        }
-    }
-}
-
-impl Payloads {
-    /// One payload more.
-    fn add(&mut self, payload: &[u8])
-        requires { (self.old.len < 2 ^ 63) × (length payload.now ≤ 64) }
-        ensures { (all : List ℕ) → Kept all self.old → Kept (all ++ payload.now) self.new }
-    {
-        let end = self.len + payload.len();
-        if end <= ROOM {
-            self.bytes[self.len..end].copy_from_slice(payload);
-        }
-        self.len = end;
-    }
-
-    /// The payloads, or none where there was no room for them.
-    pub fn bytes(&self) -> Option<&[u8]>
-        ensures { (all : List ℕ) → Kept all self.now → MatchOption result (1024 < length all) (λ s. s.now ≡ all) }
-    {
-        if self.len <= ROOM {
-            Some(&self.bytes[0..self.len])
-        } else {
-            None
-        }
-    }
-}
+/// How many bytes of payloads are kept: as many as the rows of a network have at the most.
+pub const ROOM: usize = 1024;
 
 /// Whether a record has this kind and side.
-fn is_of(item: &[u8], kind: u8, side: u8) -> bool
-    requires { length item.now ≡ 64 }
-    ensures { result ≡ (slice_index item.now 0 == kind && slice_index item.now 1 == side) }
+fn is_of(item: &[u8; RECORD], kind: Kind, side: Side) -> bool
+    ensures { result ≡ of_kind kind side item.now }
 {
-    item[0] == kind && item[1] == side
+    item[0] == u8::from(kind) && item[1] == u8::from(side)
 }
 
-/// The byte at a place, or 0 past the end.
+fn payload(item: &[u8; RECORD], kind: Kind) -> &[u8]
+    ensures bytes { result.now ≡ payload_of kind item.now }
+    ensures len { length result.now ≡ width_of kind }
+{
+    &item[2..2 + kind.width()]
+}
+
+/// The byte at a place, or 0 past the end: a setting is read of any input, also of one that is too short.
 fn byte_at(bytes: &[u8], i: usize) -> u8
     ensures { result ≡ slice_index bytes.now i }
 {
-    if i < bytes.len() { bytes[i] } else { 0 }
+    bytes.get(i).copied().unwrap_or(0)
 }
 
 /// The setting in the record that begins at the byte `start`.
@@ -97,45 +64,35 @@ pub fn setting(bytes: &[u8], side: Side) -> Setting
     }
 }
 
-/// The payloads of a side's rows or links.
-pub fn payloads(bytes: &[u8], kind: Kind, side: Side) -> Payloads
-    ensures { Kept (side_bytes kind side bytes.now) result }
+/// The payloads of a side's records of one kind, one after the other, if there is room for them. The room is fixed, since the
+/// questions of the layouts are put before any memory is asked for.
+#[tactic(auto, unfolding(crate::specs::Payloads::side_bytes))]
+pub fn payloads(bytes: &[u8], kind: Kind, side: Side) -> Option<ArrayVec<u8, ROOM>>
+    ensures { MatchOption result (1024 < length (side_bytes kind side bytes.now)) (λ v. v.items ≡ side_bytes kind side bytes.now) }
 {
-    let kind_byte = kind.byte();
-    let side_byte = u8::from(side);
-    let width = kind.width();
-    let mut all = Payloads {
-        len: 0,
-        bytes: [0; ROOM],
-    };
-    for k in 0..bytes.len() / RECORD {
-        let item = nth_record(bytes, k);
-        if is_of(item, kind_byte, side_byte) {
-            all.add(&item[2..2 + width]);
+    let mut all = ArrayVec::new();
+    for item in records(bytes) {
+        if is_of(item, kind, side) {
+            all.try_extend_from_slice(payload(item, kind)).ok()?;
         }
     }
-    all
+    Some(all)
 }
 
-fn pair_in(item: &[u8]) -> Pair
-    requires { length item.now ≡ 64 }
-    ensures { result ≡ pair_of (take 48 (drop 2 item.now)) }
+fn pair_in(item: &[u8; RECORD]) -> Pair
+    ensures { result ≡ pair_of (payload_of PairKind item.now) }
 {
-    let mut bytes = [0; 48];
-    bytes.copy_from_slice(&item[2..50]);
-    Pair::from_bytes(bytes)
+    Pair::from_bytes(payload(item, Kind::Pair).try_into().unwrap())
 }
 
 /// The pairs.
+#[tactic(auto, unfolding(crate::specs::Payloads::relation_of))]
 pub fn relation(heap: Global, bytes: &[u8]) -> Result<Vec<Pair>, AllocError>
     ensures { IfOk result (λ v. v.items ≡ relation_of bytes.now) }
 {
-    let mut pairs = Vec::new(heap);
-    for k in 0..bytes.len() / RECORD {
-        let item = nth_record(bytes, k);
-        if is_of(item, 4, 0) {
-            pairs.push(pair_in(item))?;
-        }
-    }
-    Ok(pairs)
+    records(bytes)
+        .iter()
+        .filter(|item| is_of(item, Kind::Pair, Side::Left))
+        .map(pair_in)
+        .collect(heap)
 }

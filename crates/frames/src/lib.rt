@@ -3,5 +3,5 @@
 
 pub mod frame;
 pub mod gather;
-pub mod payloads;
+pub mod kind;
 pub mod setting;

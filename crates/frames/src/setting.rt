@@ -2,7 +2,7 @@ use model::group_set::GroupSet;
 use model::value::Value;
 
 /// A side's setting, as it stands in the input: its range and its rule are not yet held to their questions.
-#[derive(Clone, Copy, Debug)]
+#[derive(Clone, Copy, PartialEq, Eq, Debug)]
 pub struct Setting {
     pub lo: Value,
     pub hi: Value,

@@ -20,7 +20,7 @@ use Rattle.judge.specs.Comparing.{Compared}
 use Rattle.judge.specs.Judged.{say, steps_asked, pair_asked, judge_asked}
 use Rattle.frames.specs.Frames.{frame_asked, frames_asked}
 use Rattle.frames.specs.Payloads.{side_bytes, setting_of}
-use Rattle.frames.specs.declared.payloads.Kind.TheVariants.{Row, Link}
+use Rattle.frames.specs.declared.kind.Kind.TheVariants.{Row, Link}
 use Rattle.frames.specs.declared.setting.Setting.{Setting}
 use Rattle.job.specs.Faults.{on_side}
 use Rattle.job.specs.Sides.{tables_asked, side_asked}

@@ -13,7 +13,7 @@ use Rattle.rules.specs.declared.links.Links.{Links}
 use Rattle.systems.specs.Meaning.{Meaning}
 use Rattle.network.specs.Meanings.{network_meaning}
 use Rattle.frames.specs.Payloads.{side_bytes, setting_of}
-use Rattle.frames.specs.declared.payloads.Kind.TheVariants.{Row, Link}
+use Rattle.frames.specs.declared.kind.Kind.TheVariants.{Row, Link}
 use Rattle.frames.specs.declared.setting.Setting.{Setting}
 use Rattle.job.specs.Sides.{tables_asked, ruled_meaning, side_meaning, Holds}
 use Rattle.job.specs.declared.sides.Checked.{Checked}

@@ -16,7 +16,7 @@ use Rattle.network.specs.Loads.{network_asked, net_in}
 use Rattle.network.specs.Meanings.{network_meaning}
 use Rattle.network.specs.declared.network.Network.{Network}
 use Rattle.frames.specs.Payloads.{side_bytes, setting_of}
-use Rattle.frames.specs.declared.payloads.Kind.TheVariants.{Row, Link}
+use Rattle.frames.specs.declared.kind.Kind.TheVariants.{Row, Link}
 use Rattle.frames.specs.declared.setting.Setting.{Setting}
 use Rattle.job.specs.Faults.{on_side}
 use Rattle.job.specs.declared.sides.Checked.{Checked}

@@ -6,14 +6,14 @@ ghost use Rattle.rules.specs.Faults.{rule_refusal};
 ghost use Rattle.rules.specs.LinkRules.{links_asked};
 ghost use Rattle.network.specs.Loads.{network_asked, network_refusal};
 ghost use Rattle.frames.specs.Payloads.{side_bytes, setting_of};
-ghost use Rattle.frames.specs.declared.payloads.Kind.TheVariants.{Row as Rows, Link as Links};
+ghost use Rattle.frames.specs.declared.kind.Kind.TheVariants.{Row as Rows, Link as Links};
 ghost use Rattle.job.specs.Faults.{side_refusal, job_refusal};
 ghost use Rattle.job.specs.Sides.{tables_asked, side_asked, Holds};
 
 use crate::fault::{JobFault, SideFault, on_side};
 use crate::sides::Checked;
 use frames::gather::{payloads, setting};
-use frames::payloads::Kind;
+use frames::kind::Kind;
 use frames::setting::Setting;
 use model::range::Range;
 use model::unit_state::UNITS;
@@ -30,12 +30,9 @@ fn check_links(bytes: &[u8], side: Side) -> Result<(), RuleFault>
     ensures certain { Certain rule_refusal result }
     ensures refuses { refusal_of rule_refusal result ≡ first_no (links_asked (side_bytes Links side bytes.now)) }
 {
-    let links = payloads(bytes, Kind::Link, side);
     // more bytes than there is room for are more than 16 links
-    let Some(links) = links.bytes() else {
-        return Err(RuleFault::Count);
-    };
-    check(&LinkLayout, links)?;
+    let links = payloads(bytes, Kind::Link, side).ok_or(RuleFault::Count)?;
+    check(&LinkLayout, links.as_slice())?;
     Ok(())
 }
 
@@ -47,12 +44,9 @@ fn check_network(bytes: &[u8], side: Side, range: Range, units: usize) -> Result
     if units < 1 || UNITS < units {
         return Err(NetworkFault::Units);
     }
-    let rows = payloads(bytes, Kind::Row, side);
     // more bytes than there is room for are more than 64 rows
-    let Some(rows) = rows.bytes() else {
-        return Err(NetworkFault::RowCount);
-    };
-    check(&RowLayout { range }, rows)?;
+    let rows = payloads(bytes, Kind::Row, side).ok_or(NetworkFault::RowCount)?;
+    check(&RowLayout { range }, rows.as_slice())?;
     Ok(())
 }
 

@@ -5,7 +5,7 @@ ghost use Rattle.rules.specs.Faults.{rule_refusal};
 ghost use Rattle.rules.specs.LinkRules.{meets, links_allow, links_asked, links_of};
 ghost use Rattle.network.specs.Loads.{network_asked, network_refusal, net_in};
 ghost use Rattle.frames.specs.Payloads.{side_bytes, setting_of};
-ghost use Rattle.frames.specs.declared.payloads.Kind.TheVariants.{Row as RowKind, Link as LinkKind};
+ghost use Rattle.frames.specs.declared.kind.Kind.TheVariants.{Row as RowKind, Link as LinkKind};
 ghost use Rattle.job.specs.Faults.{side_refusal, job_refusal};
 ghost use Rattle.job.specs.Sides.{tables_asked, side_asked, ruled_meaning, loaded_meaning, side_meaning, Holds};
 ghost use Rattle.job.specs.Jobs.{layouts_asked, Loaded};
@@ -16,7 +16,7 @@ use crate::job::Job;
 use crate::sides::Checked;
 use frames::frame::check;
 use frames::gather::{payloads, relation};
-use frames::payloads::Kind;
+use frames::kind::Kind;
 use network::fault::NetworkFault;
 use network::network::Network;
 use questions::Side;
@@ -31,11 +31,8 @@ fn load_links(heap: Global, bytes: &[u8], side: Side) -> Result<Links, RuleFault
     ensures memory { refusal_of rule_refusal result ≡ None }
     ensures means { IfOk result (λ x. links_allow x ≡ meets (links_of (side_bytes LinkKind side bytes.now))) }
 {
-    let links = payloads(bytes, Kind::Link, side);
-    let Some(links) = links.bytes() else {
-        return Err(RuleFault::Count);
-    };
-    Links::load(heap, links)
+    let links = payloads(bytes, Kind::Link, side).ok_or(RuleFault::Count)?;
+    Links::load(heap, links.as_slice())
 }
 
 fn load_network(
@@ -49,11 +46,15 @@ fn load_network(
     ensures memory { refusal_of network_refusal result ≡ None }
     ensures means { IfOk result (λ n. loaded_meaning n ≡ ruled_meaning (net_in checked.range.lo checked.range.hi checked.free checked.units (side_bytes RowKind side bytes.now)) rule) }
 {
-    let rows = payloads(bytes, Kind::Row, side);
-    let Some(rows) = rows.bytes() else {
-        return Err(NetworkFault::RowCount);
-    };
-    Network::load(heap, checked.range, checked.free, checked.units, rows, rule)
+    let rows = payloads(bytes, Kind::Row, side).ok_or(NetworkFault::RowCount)?;
+    Network::load(
+        heap,
+        checked.range,
+        checked.free,
+        checked.units,
+        rows.as_slice(),
+        rule,
+    )
 }
 
 fn load_tables(

@@ -1,7 +1,7 @@
 use Rattle.std.proofs.Common.{ap, ◌∙◌}
 use Rattle.questions.specs.Asking.{first_no}
 use Rattle.frames.specs.Payloads.{side_bytes, setting_of}
-use Rattle.frames.specs.declared.payloads.Kind.TheVariants.{Row, Link}
+use Rattle.frames.specs.declared.kind.Kind.TheVariants.{Row, Link}
 use Rattle.frames.specs.declared.setting.Setting.{Setting}
 use Rattle.job.specs.Sides.{tables_asked, Holds}
 use Rattle.job.proofs.OnSide.{side_certain, side_refuses, side_made}

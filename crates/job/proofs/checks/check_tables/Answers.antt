@@ -3,7 +3,7 @@ use Rattle.std.proofs.lemmas.Result.{err_from_is_err_and}
 use Rattle.questions.specs.Asking.{first_no}
 use Rattle.model.specs.Ranges.{range_asked}
 use Rattle.frames.specs.Payloads.{side_bytes}
-use Rattle.frames.specs.declared.payloads.Kind.TheVariants.{Row, Link}
+use Rattle.frames.specs.declared.kind.Kind.TheVariants.{Row, Link}
 use Rattle.job.specs.Faults.{side_refusal}
 use Rattle.job.proofs.Tables.{links_refused, tuner_refused, network_asked_lem}
 use Rattle.job.proofs.checks.check_tables.Goals as goal

@@ -1,6 +1,6 @@
 use Rattle.std.proofs.Common.{◌≡◌}
 use Rattle.frames.specs.Payloads.{side_bytes, setting_of}
-use Rattle.frames.specs.declared.payloads.Kind.TheVariants.{Row, Link}
+use Rattle.frames.specs.declared.kind.Kind.TheVariants.{Row, Link}
 use Rattle.job.specs.Sides.{tables_asked, loaded_meaning, side_meaning}
 use Rattle.job.proofs.OnSide.{side_memory, side_made, none_stated}
 use Rattle.job.proofs.loads.load_side.Goals as goal

@@ -1,7 +1,7 @@
 use Rattle.std.proofs.Common.{refl, ap, ◌∙◌}
 use Rattle.std.proofs.lemmas.Result.{err_from_is_err_and}
 use Rattle.frames.specs.Payloads.{side_bytes, setting_of}
-use Rattle.frames.specs.declared.payloads.Kind.TheVariants.{Row, Link}
+use Rattle.frames.specs.declared.kind.Kind.TheVariants.{Row, Link}
 use Rattle.job.specs.Faults.{side_refusal}
 use Rattle.job.proofs.Tables.{links_pass, network_passes, side_meaning_lem}
 use Rattle.job.proofs.loads.load_tables.Goals as goal
