@@ -1,7 +1,7 @@
 -- No question is answered no exactly where the relation is a bisimulation. Assumes nothing.
-use Rattle.std.proofs.Common.{◌≡◌, ℕ, ◌+◌, ◌<◌, ◌≤◌, true, ◌++◌, length, drop, Some, None, Ok, Err, Option, Result, sym, refl, ap, ◌∙◌, subst}
-use Rattle.std.proofs.lemmas.Bool.{leb-true, le-leb}
-use Rattle.lists.specs.Words.{through, Stands}
+use Rattle.std.proofs.Common.{◌≡◌, ℕ, zero, suc, ◌+◌, ◌<◌, ◌≤◌, true, false, ◌++◌, length, drop, Some, None, Ok, Err, Option, Result, sym, refl, ap, ◌∙◌, subst, add-one, arith}
+use Rattle.std.proofs.lemmas.Bool.{leb-true, le-leb, false≢true, true_from_ne_false, false_from_ne_true}
+use Rattle.lists.specs.Words.{through, Stands, FirstOf}
 use Rattle.lists.proofs.Places.{nth_within, nth_here, some_none}
 use Rattle.questions.specs.Asking.{first_no, numbered, restated}
 use Rattle.questions.specs.declared.Refusal.{Refusal}
@@ -10,14 +10,15 @@ use Rattle.questions.specs.declared.Side.TheVariants.{Left, Right}
 use Rattle.questions.proofs.Asked.{head_none, head_yes, append_none, append_some, append_left, append_right, ask_yes, ask_none, ask_no, numbered_none, numbered_each, numbered_more, numbered_here, numbered_all, first_restated}
 use Rattle.model.specs.declared.state.Pair.{Pair}
 use Rattle.model.proofs.Deciding.{decides_set}
-use Rattle.judge.specs.Comparing.{Compared, OneRange, steps_on}
+use Rattle.systems.specs.Meaning.{Step}
+use Rattle.judge.specs.Comparing.{Compared, OneRange, opposed, steps_on}
 use Rattle.judge.specs.Likeness.{Reply, Answered, Matched, Bisimulation}
+use Rattle.judge.specs.Replies.{has_reply}
 use Rattle.judge.specs.Judged.{say, step_asked, steps_asked, pair_asked, judge_asked, judge_refusal, Judged}
 use Rattle.judge.specs.declared.fault.Fault.{Fault}
 use Rattle.judge.specs.declared.fault.Fault.TheVariants.{Ranges, TooMany, LeftUnlawful, RightUnlawful, Shown, LeftStep, RightStep}
 use Rattle.judge.specs.declared.verdict.Pass.{Pass}
-use Rattle.judge.proofs.Values.{clash}
-use Rattle.judge.proofs.Tested.{decides_range, decides_answered, decides_no}
+use Rattle.judge.proofs.Tested.{decides_range, decides_answered}
 
 through_none : {X Y : Type 0} (f : X → Y) (o : Option X) → through f o ≡ None → o ≡ None
 through_none f None e = refl
@@ -33,21 +34,32 @@ module _ (c : Compared) (one : OneRange c) (side : Side) (p : Pair) where
   answered_steps all =
       numbered_none (step_asked c side p) 0 (steps_on side c p) (λ i x at. ask_none (0 + i) _ ((decides_answered c side one p i x at).1 (all i (nth_within (steps_on side c p) i x at))))
 
-  -- the loop over the steps: what is left to ask has the first no of all
-  pub step_unanswered : (i : ℕ) → i < length (steps_on side c p) → first_no (numbered (step_asked c side p) i (drop i (steps_on side c p))) ≡ first_no (steps_asked c side p) → ((j : ℕ) → Reply c side p i j → ⊥) → Some i ≡ first_no (steps_asked c side p)
-  step_unanswered i h inv none =
-      let x = nth_here (steps_on side c p) i h in
-      let unmet = decides_no _ (decides_answered c side one p i x.0 x.1) (λ a. none a.0 a.1) in
-      sym (sym inv ∙ numbered_here (step_asked c side p) (steps_on side c p) i x.0 i x.1 (ask_no _ _ unmet))
+  -- the step i is not answered among the first n steps of the opposite side
+  abbrev Unanswered : ℕ → ℕ → Type 0
+  Unanswered n i = (j : ℕ) × ((j < n) × Reply c side p i j) → ⊥
 
-  pub step_answered : (i j : ℕ) → i < length (steps_on side c p) → first_no (numbered (step_asked c side p) i (drop i (steps_on side c p))) ≡ first_no (steps_asked c side p) → Reply c side p i j → first_no (numbered (step_asked c side p) (i + 1) (drop (i + 1) (steps_on side c p))) ≡ first_no (steps_asked c side p)
-  step_answered i j h inv r =
-      let x = nth_here (steps_on side c p) i h in
-      let met = (decides_answered c side one p i x.0 x.1).1 (j, r) in
-      sym (numbered_more (step_asked c side p) (steps_on side c p) i x.0 x.1 (ask_none _ _ met)) ∙ inv
+  module _ (n : ℕ) (all : n ≡ length (steps_on (opposed side) c p)) where
+    unmet : (i : ℕ) (x : Step) → Stands (steps_on side c p) x i → Unanswered n i → has_reply c side x (steps_on (opposed side) c p) ≡ false
+    unmet i x at none = false_from_ne_true _ (λ e. let a = (decides_answered c side one p i x at).0 e in none (a.0, (rw all (nth_within (steps_on (opposed side) c p) a.0 a.1.given a.1.given_at), a.1)))
 
-  pub steps_done : (i : ℕ) → length (steps_on side c p) ≤ i → first_no (numbered (step_asked c side p) i (drop i (steps_on side c p))) ≡ first_no (steps_asked c side p) → None ≡ first_no (steps_asked c side p)
-  steps_done i h inv = sym (sym inv ∙ numbered_all (step_asked c side p) (steps_on side c p) i h)
+    met : (i : ℕ) (x : Step) → Stands (steps_on side c p) x i → (Unanswered n i → ⊥) → has_reply c side x (steps_on (opposed side) c p) ≡ true
+    met i x at some = true_from_ne_false _ (λ e. some (λ a. absurd (false≢true (sym e ∙ (decides_answered c side one p i x at).1 (a.0, a.1.1)))))
+
+    -- what is left to ask behind answered steps has the first no of all
+    behind : (i : ℕ) → i ≤ length (steps_on side c p) → ((k : ℕ) → k < i → Unanswered n k → ⊥) → first_no (numbered (step_asked c side p) i (drop i (steps_on side c p))) ≡ first_no (steps_asked c side p)
+    behind zero h some = refl
+    behind (suc i) h some =
+        let x = nth_here (steps_on side c p) i (omega arith) in
+        let next = numbered_more (step_asked c side p) (steps_on side c p) i x.0 x.1 (ask_none _ _ (met i x.0 x.1 (some i (omega arith)))) in
+        sym (rw add-one at next) ∙ behind i (omega arith) (λ k before. some k (omega arith))
+
+    pub first_unanswered : (m : ℕ) (r : Option ℕ) → m ≡ length (steps_on side c p) → FirstOf (λ i. (i < m) × Unanswered n i) r → r ≡ first_no (steps_asked c side p)
+    first_unanswered m None whole h =
+        sym (sym (behind m (omega (arith, whole)) (λ k before none. h k (before, none))) ∙ numbered_all (step_asked c side p) (steps_on side c p) m (omega (arith, whole)))
+    first_unanswered m (Some i) whole h =
+        let x = nth_here (steps_on side c p) i (omega (arith, whole, h.0.0)) in
+        sym (sym (behind i (omega (arith, whole, h.0.0)) (λ k before none. h.1 k before (omega (arith, before, h.0.0), none)))
+        ∙ numbered_here (step_asked c side p) (steps_on side c p) i x.0 i x.1 (ask_no _ _ (unmet i x.0 x.1 h.0.1)))
 
 -- the questions to one record
 module _ (c : Compared) (one : OneRange c) (k : ℕ) (p : Pair) where
@@ -121,21 +133,24 @@ module _ (c : Compared) where
       subst (λ (x : Result Pass Fault). Judged c x) (sym e) (record {
         refuses = says ∙ sym first;
         counts = tt;
-        exactly = (λ ok. absurd (clash ok), λ b. absurd (some_none _ _ first (bisimulation_none b)));
+        exactly = (λ ok. absurd (false≢true ok), λ b. absurd (some_none _ _ first (bisimulation_none b)));
       })
 
   pub judged_pass : (p : Pass) → p.count ≡ length c.relation → first_no (judge_asked c) ≡ None → Judged c (Ok p)
   judged_pass p count none = record { refuses = sym none; counts = count; exactly = (λ _. none_bisimulation none, λ _. refl) }
 
-  -- the loop over the records: what is left to ask has the first no of all
-  module _ (k : ℕ) (p : Pair) (at : Stands c.relation p k) (inv : first_no (numbered (pair_asked c) k (drop k c.relation)) ≡ first_no (judge_asked c)) where
-    pub pair_refused : (r : Result Pass Fault) (f : Fault) → r ≡ Err f → judge_refusal f ≡ first_no (pair_asked c k p) → Judged c r
+  -- the loop over the records: what is left to ask has the first no of all. The record is judged by a comparison that is c.
+  module _ (own : Compared) (same : own ≡ c) (k : ℕ) (p : Pair) (at : Stands c.relation p k) (inv : first_no (numbered (pair_asked c) k (drop k c.relation)) ≡ first_no (judge_asked c)) where
+    pub pair_refused : (r : Result Pass Fault) (f : Fault) → r ≡ Err f → judge_refusal f ≡ first_no (pair_asked own k p) → Judged c r
     pair_refused r f e says =
         let t = refusal_some f in
-        judged_no r f t.0 e t.1 (sym inv ∙ numbered_here (pair_asked c) c.relation k p t.0 at (sym says ∙ t.1))
+        let here = says ∙ ap (λ x. first_no (pair_asked x k p)) same in
+        judged_no r f t.0 e t.1 (sym inv ∙ numbered_here (pair_asked c) c.relation k p t.0 at (sym here ∙ t.1))
 
-    pub pair_passed : None ≡ first_no (pair_asked c k p) → first_no (numbered (pair_asked c) (k + 1) (drop (k + 1) c.relation)) ≡ first_no (judge_asked c)
-    pair_passed none = sym (numbered_more (pair_asked c) c.relation k p at (sym none)) ∙ inv
+    pub pair_passed : None ≡ first_no (pair_asked own k p) → first_no (numbered (pair_asked c) (k + 1) (drop (k + 1) c.relation)) ≡ first_no (judge_asked c)
+    pair_passed none =
+        let here = none ∙ ap (λ x. first_no (pair_asked x k p)) same in
+        sym (numbered_more (pair_asked c) c.relation k p at (sym here)) ∙ inv
 
   pub all_passed : (k : ℕ) (p : Pass) → length c.relation ≤ k → first_no (numbered (pair_asked c) k (drop k c.relation)) ≡ first_no (judge_asked c) → p.count ≡ length c.relation → Judged c (Ok p)
   all_passed k p h inv count = judged_pass p count (sym inv ∙ numbered_all (pair_asked c) c.relation k h)

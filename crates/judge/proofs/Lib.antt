@@ -1,4 +1,6 @@
 pub mod Values
+pub mod EachValue
+pub mod Finding
 pub mod Replying
 pub mod Tested
 pub mod Exactly

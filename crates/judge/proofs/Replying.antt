@@ -1,10 +1,10 @@
 -- What landings tell of replies. Assumes nothing.
-use Rattle.std.proofs.Common.{◌≡◌, ℕ, ◌<◌, Bool, true, false, cond, length, ℤ, Some, None, Decides, sym, refl, ap, ◌∙◌, subst, arith}
+use Rattle.std.proofs.Common.{◌≡◌, ℕ, Bool, true, false, cond, ℤ, Some, None, Decides, sym, refl, ap, ◌∙◌, subst, arith}
 use Rattle.std.specs.List.{slice_get}
 use Rattle.std.proofs.lemmas.Int.{ints}
 use Rattle.std.proofs.lemmas.Bool.Decides.{Decides-like}
 use Rattle.lists.specs.Words.{through, Stands}
-use Rattle.lists.proofs.Places.{some_same, nth_within}
+use Rattle.lists.proofs.Places.{some_same}
 use Rattle.questions.specs.declared.Side.{Side}
 use Rattle.questions.specs.declared.Side.TheVariants.{Left, Right}
 use Rattle.model.specs.declared.label.Label.{Label}
@@ -92,7 +92,3 @@ module _ (c : Compared) (side opp : Side) (p : Pair) (i j : ℕ) (k l : Label) (
       let alike = x.2 ∙ same ∙ sym y.2 in
       decides_reply c one side p i j x.0 y.0 x.1 y.1 b alike
       (decides_one c one side p i j x.0 y.0 x.1 y.1 (keeps_on c keeps-left keeps-right side) (keeps_on c keeps-left keeps-right (opposed side)) (ap receives x.2 ∙ quiet) alike b u within d)
-
--- a reply is a step of the opposite side's list
-pub reply_within : (c : Compared) (side : Side) (p : Pair) (i j : ℕ) → Reply c side p i j → j < length (steps_on (opposed side) c p)
-reply_within c side p i j r = nth_within (steps_on (opposed side) c p) j r.given r.given_at

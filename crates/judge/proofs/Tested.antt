@@ -4,7 +4,7 @@ use lib.Signed.{le_z}
 use Rattle.std.specs.List.{slice_get}
 use Rattle.std.proofs.lemmas.Int.{ints, by_lt_z}
 use Rattle.std.proofs.lemmas.Bool.Decides.{Decides-and, Decides-like}
-use Rattle.std.proofs.lemmas.Bool.{and_parts, and_from, or_cases, or_left, or_right}
+use Rattle.std.proofs.lemmas.Bool.{and_parts, and_from, or_cases, or_left, or_right, false≢true}
 use Rattle.lists.specs.Words.{Stands}
 use Rattle.lists.proofs.Places.{some_same, some_none}
 use Rattle.questions.specs.declared.Side.{Side}
@@ -15,7 +15,7 @@ use Rattle.systems.specs.Meaning.{Meaning, Step, in_range_of}
 use Rattle.judge.specs.Comparing.{Compared, OneRange, opposed, pair_from, steps_on}
 use Rattle.judge.specs.Likeness.{Holds, Lands, Answered}
 use Rattle.judge.specs.Replies.{same_range, holds, yes_from, yes_of_each, replies, has_reply}
-use Rattle.judge.proofs.Values.{clash, in_range_lem, range_low, range_high}
+use Rattle.judge.proofs.Values.{in_range_lem, range_low, range_high}
 
 pub decides_range : (c : Compared) → Decides (same_range c) (OneRange c)
 decides_range c =
@@ -23,7 +23,7 @@ decides_range c =
     (Decides-and _ _ (decides_value c.left.lo c.right.lo) (decides_value c.left.hi c.right.hi))
 
 pub decides_holds : (rel : List Pair) (p : Pair) → Decides (holds rel p) (Holds rel p)
-decides_holds [] p = (λ e. absurd (clash e), λ h. absurd (some_none (slice_get [] h.0) p h.1 refl))
+decides_holds [] p = (λ e. absurd (false≢true e), λ h. absurd (some_none (slice_get [] h.0) p h.1 refl))
 decides_holds (q ∷ qs) p = (
   λ e. ⊎_elim (λ a. (0, ap Some ((decides_pair q p).0 a))) (λ b. let h = (decides_holds qs p).0 b in (suc h.0, h.1)) (or_cases (same_pair q p) (holds qs p) e),
   λ h. elim h.0 as (λ k. slice_get (q ∷ qs) k ≡ Some p → (same_pair q p || holds qs p) ≡ true) [
@@ -56,7 +56,7 @@ module _ (f : ℤ → Bool) (P : ℤ → Type 0) (each : (v : ℤ) → Decides (
             (λ all v low high. all v (in_range_lem _ _ v low (omega (arith, ints))))
             (decides_from (suc (nat_abs (m.hi -ℤ m.lo))) m.lo))
         | false ↦ (λ t. (
-          λ _ v w. let a = range_low m.lo m.hi v w in let b = range_high m.lo m.hi v w in let s : m.lo ≤ℤ m.hi = omega (arith, ints) in absurd (clash (sym t ∙ le_le_z _ _ s)),
+          λ _ v w. let a = range_low m.lo m.hi v w in let b = range_high m.lo m.hi v w in let s : m.lo ≤ℤ m.hi = omega (arith, ints) in absurd (false≢true (sym t ∙ le_le_z _ _ s)),
           λ _. refl,
         ))
       ] refl
@@ -69,7 +69,7 @@ module _ (c : Compared) (side : Side) where
       (λ v. decides_holds c.relation (pair_from side (x.landing v) (y.landing v))) c.left)
 
   has_reply_lem : (x : Step) (ys : List Step) → has_reply c side x ys ≡ true → (j : ℕ) × (y : Step) × Stands ys y j × (x.label ≡ y.label) × Lands c side x y
-  has_reply_lem x [] e = absurd (clash e)
+  has_reply_lem x [] e = absurd (false≢true e)
   has_reply_lem x (y ∷ ys) e =
       ⊎_elim (λ a. let r = (decides_replies x y).0 a in (0, y, refl, r.0, r.1))
       (λ b. let r = has_reply_lem x ys b in (suc r.0, r.1, r.2, r.3, r.4))
@@ -89,7 +89,3 @@ module _ (c : Compared) (side : Side) where
         let s = some_same (slice_get (steps_on side c p) i) r.asked x r.asked_at at in
         subst (λ (z : Step). has_reply c side z (steps_on (opposed side) c p) ≡ true) s (reply_has r.asked (steps_on (opposed side) c p) a.0 r.given r.given_at r.one_label r.lands),
   )
-
-pub decides_no : {P : Type 0} (b : Bool) → Decides b P → (P → ⊥) → b ≡ false
-decides_no true d h = absurd (h (d.0 refl))
-decides_no false d h = refl

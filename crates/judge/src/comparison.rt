@@ -1,5 +1,5 @@
-ghost use Rattle.std.specs.Prelude.{◌≡◌, length, Decides};
-ghost use Rattle.judge.specs.Comparing.{meant, opposed, pair_from, steps_on, label_on, landing_on, OneRange};
+ghost use Rattle.std.specs.Prelude.{◌≡◌, length};
+ghost use Rattle.judge.specs.Comparing.{meant, opposed, pair_from, steps_on, label_on, landing_on};
 
 use model::label::Label;
 use model::state::{Pair, State};
@@ -40,16 +40,8 @@ pub(crate) fn pair_from(side: Side, own: State, other: State) -> Pair
     }
 }
 
+// The two systems are of two types, so each question to the system on a side is put by a match on the side.
 impl<L: System, R: System> Comparison<'_, L, R> {
-    /// Whether the two systems have the same range.
-    pub(crate) fn has_one_range(&self) -> bool
-        ensures { Decides result (OneRange (meant L.System.means R.System.means self.now)) }
-    {
-        let left = self.left.range();
-        let right = self.right.range();
-        left.lo == right.lo && left.hi == right.hi
-    }
-
     /// How many steps the pair's state on that side has.
     pub(crate) fn step_count(&self, side: Side, pair: &Pair) -> u64
         ensures { result ≡ length (steps_on side (meant L.System.means R.System.means self.now) pair.now) }

@@ -2,6 +2,8 @@ ghost use Rattle.std.specs.Prelude.{◌≡◌, Some};
 ghost use Rattle.judge.specs.Judged.{judge_refusal};
 
 use questions::{Refusal, Side};
+use std::error::Error;
+use std::fmt;
 
 /// Why a relation is not accepted: the first no among the judge's questions. A pair is told by its number in the relation,
 /// and a step without a reply by its number in the list of its own state.
@@ -16,29 +18,56 @@ pub enum Fault {
     RightStep { pair: usize, step: u64 },
 }
 
-fn refuse(question: u8, side: Side, item: usize, step: u64) -> Refusal
-    ensures { result ≡ record { question = question; side = side; item = item; step = step } }
-{
-    Refusal {
-        question,
-        side,
-        item,
-        step,
-    }
-}
-
 impl Fault {
     pub fn refusal(&self) -> Refusal
         ensures { Some result ≡ judge_refusal self.now }
     {
         match *self {
-            Fault::Ranges => refuse(10, Side::Left, 0, 0),
-            Fault::TooMany => refuse(11, Side::Left, 0, 0),
-            Fault::LeftUnlawful { pair } => refuse(12, Side::Left, pair, 0),
-            Fault::RightUnlawful { pair } => refuse(13, Side::Right, pair, 0),
-            Fault::Shown { pair } => refuse(14, Side::Left, pair, 0),
-            Fault::LeftStep { pair, step } => refuse(15, Side::Left, pair, step),
-            Fault::RightStep { pair, step } => refuse(16, Side::Right, pair, step),
+            Fault::Ranges => Refusal::of(10, 0),
+            Fault::TooMany => Refusal::of(11, 0),
+            Fault::LeftUnlawful { pair } => Refusal::of(12, pair),
+            Fault::RightUnlawful { pair } => Refusal {
+                side: Side::Right,
+                ..Refusal::of(13, pair)
+            },
+            Fault::Shown { pair } => Refusal::of(14, pair),
+            Fault::LeftStep { pair, step } => Refusal {
+                step,
+                ..Refusal::of(15, pair)
+            },
+            Fault::RightStep { pair, step } => Refusal {
+                side: Side::Right,
+                step,
+                ..Refusal::of(16, pair)
+            },
         }
     }
 }
+
+impl fmt::Display for Fault {
+    fn fmt<W: fmt::Write>(&self, f: &mut fmt::Formatter<W>) -> fmt::Result {
+        match self {
+            Fault::Ranges => write!(f, "the systems have different ranges"),
+            Fault::TooMany => write!(f, "the relation has too many pairs"),
+            Fault::LeftUnlawful { pair } => write!(
+                f,
+                "the left state of pair {pair} is not lawful"
+            ),
+            Fault::RightUnlawful { pair } => write!(
+                f,
+                "the right state of pair {pair} is not lawful"
+            ),
+            Fault::Shown { pair } => write!(f, "the states of pair {pair} show different sets"),
+            Fault::LeftStep { pair, step } => write!(
+                f,
+                "step {step} of the left state of pair {pair} has no reply"
+            ),
+            Fault::RightStep { pair, step } => write!(
+                f,
+                "step {step} of the right state of pair {pair} has no reply"
+            ),
+        }
+    }
+}
+
+impl Error for Fault {}

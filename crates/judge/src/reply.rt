@@ -1,9 +1,10 @@
-ghost use Rattle.std.specs.Prelude.{◌≡◌, true, length, ℤ, Some, Decides};
+ghost use Rattle.std.specs.Prelude.{◌≡◌, true, ◌<◌, ℤ, Some, None, Decides, MatchOption};
 ghost use Rattle.lists.specs.Words.{FirstOf};
 ghost use Rattle.systems.specs.Meaning.{receives, in_range_of};
-ghost use Rattle.judge.specs.Comparing.{meant, OneRange, label_on, opposed, steps_on};
+ghost use Rattle.judge.specs.Comparing.{meant, label_on};
 ghost use Rattle.judge.specs.Likeness.{LandsAt, Reply};
 
+use crate::aligned::Aligned;
 use crate::comparison::{Comparison, opposite, pair_from};
 use lookup::first_equal;
 use model::label::Label;
@@ -15,64 +16,76 @@ use systems::System;
 fn is_receive(label: &Label) -> bool
     ensures { result ≡ receives label.now }
 {
-    match *label {
-        Label::Receive { .. } => true,
-        Label::Silent | Label::Movement | Label::Broadcast { .. } => false,
-    }
+    matches!(label, Label::Receive { .. })
 }
 
-impl<L: System, R: System> Comparison<'_, L, R> {
-    /// Whether both steps land at the value, and their landings form a record of the relation.
-    fn lands_at(&self, side: Side, pair: &Pair, step: u64, reply: u64, value: Value) -> bool
-        ensures { Decides result (LandsAt (meant L.System.means R.System.means self.now) side pair.now step reply value) }
+/// A step of the pair's state on a side, to which the state on the opposite side is to reply.
+#[derive(Drop)]
+struct Challenge<'a, L: System, R: System> {
+    between: &'a Aligned<'a, L, R>,
+    side: Side,
+    pair: &'a Pair,
+    step: u64,
+    label: Label,
+    ghost labeled: { label_on side (meant L.System.means R.System.means between.now.comparison.now) pair.now step ≡ Some label },
+}
+
+impl<L: System, R: System> Challenge<'_, L, R> {
+    /// Whether the step and the step `reply` both land at the value, and their landings form a record of the relation.
+    fn lands_at(&self, reply: u64, value: Value) -> bool
+        ensures { Decides result (LandsAt (meant L.System.means R.System.means self.now.between.now.comparison.now) self.now.side self.now.pair.now self.now.step reply value) }
     {
+        let comparison = self.between.comparison;
         let landings = (
-            self.landing(side, pair, step, value),
-            self.landing(opposite(side), pair, reply, value),
+            comparison.landing(self.side, self.pair, self.step, value),
+            comparison.landing(opposite(self.side), self.pair, reply, value),
         );
         match landings {
             (Some(own), Some(other)) => first_equal(
-                self.relation,
-                &pair_from(side, own, other),
+                comparison.relation,
+                &pair_from(self.side, own, other),
             ).is_some(),
             _ => false,
         }
     }
 
     /// The same at every value in the range.
-    fn lands_at_each(&self, side: Side, pair: &Pair, step: u64, reply: u64) -> bool
-        ensures { Decides result ((v : ℤ) → in_range_of (meant L.System.means R.System.means self.now).left v ≡ true → LandsAt (meant L.System.means R.System.means self.now) side pair.now step reply v) }
+    fn lands_at_each(&self, reply: u64) -> bool
+        ensures { Decides result ((v : ℤ) → in_range_of (meant L.System.means R.System.means self.now.between.now.comparison.now).left v ≡ true → LandsAt (meant L.System.means R.System.means self.now.between.now.comparison.now) self.now.side self.now.pair.now self.now.step reply v) }
     {
-        let range = self.left.range();
-        for value in range.lo..range.hi {
-            if !self.lands_at(side, pair, step, reply, value) {
-                return false;
-            }
-        }
-        self.lands_at(side, pair, step, reply, range.hi)
+        let range = self.between.comparison.left.range();
+        (range.lo..=range.hi).all(|value| self.lands_at(reply, value))
     }
 
-    /// Whether the step `reply` of the pair's state on the opposite side is a reply to the step on this side, which has the
-    /// label. Only a receive can land differently by value, so any other step is tried at one value.
-    fn is_reply(&self, side: Side, pair: &Pair, step: u64, label: &Label, reply: u64) -> bool
-        requires range { OneRange (meant L.System.means R.System.means self.now) }
-        requires labeled { label_on side (meant L.System.means R.System.means self.now) pair.now step ≡ Some label.now }
-        ensures { Decides result (Reply (meant L.System.means R.System.means self.now) side pair.now step reply) }
+    /// Whether the step `reply` of the pair's state on the opposite side is a reply. Only a receive can land differently by
+    /// value, so any other step is tried at one value.
+    fn is_reply(&self, reply: u64) -> bool
+        ensures { Decides result (Reply (meant L.System.means R.System.means self.now.between.now.comparison.now) self.now.side self.now.pair.now self.now.step reply) }
     {
-        let Some(other) = self.label(opposite(side), pair, reply) else {
+        let comparison = self.between.comparison;
+        let Some(given) = comparison.label(opposite(self.side), self.pair, reply) else {
             return false;
         };
-        if *label != other {
+        if self.label != given {
             return false;
         }
-        if is_receive(label) {
-            self.lands_at_each(side, pair, step, reply)
+        if is_receive(&self.label) {
+            self.lands_at_each(reply)
         } else {
-            self.lands_at(side, pair, step, reply, self.left.range().lo)
+            self.lands_at(reply, comparison.left.range().lo)
         }
     }
 
-    /// The first reply to the step among the `count` steps of the pair's state on the opposite side.
+    /// The first reply among the first `count` steps of the pair's state on the opposite side.
+    fn first_reply_among(&self, count: u64) -> Option<u64>
+        ensures { FirstOf (λ j. (j < count) × Reply (meant L.System.means R.System.means self.now.between.now.comparison.now) self.now.side self.now.pair.now self.now.step j) result }
+    {
+        (0..count).find(|&reply| self.is_reply(reply))
+    }
+}
+
+impl<L: System, R: System> Aligned<'_, L, R> {
+    /// The first reply to the step among the first `count` steps of the pair's state on the opposite side.
     pub(crate) fn first_reply_among(
         &self,
         side: Side,
@@ -80,30 +93,26 @@ impl<L: System, R: System> Comparison<'_, L, R> {
         step: u64,
         count: u64,
     ) -> Option<u64>
-        requires range { OneRange (meant L.System.means R.System.means self.now) }
-        requires all { count ≡ length (steps_on (opposed side) (meant L.System.means R.System.means self.now) pair.now) }
-        ensures { FirstOf (Reply (meant L.System.means R.System.means self.now) side pair.now step) result }
+        ensures { FirstOf (λ j. (j < count) × Reply (meant L.System.means R.System.means self.now.comparison.now) side pair.now step j) result }
     {
-        let Some(label) = self.label(side, pair, step) else {
-            return None;
+        let challenge = Challenge {
+            between: self,
+            side,
+            pair,
+            step,
+            label: self.comparison.label(side, pair, step)?,
         };
-        for reply in 0..count {
-            if self.is_reply(side, pair, step, &label, reply) {
-                return Some(reply);
-            }
-        }
-        None
+        challenge.first_reply_among(count)
     }
+}
 
+impl<L: System, R: System> Comparison<'_, L, R> {
     /// The first step in list order of the pair's state on the opposite side that is a reply to the step on this side. There
     /// is none between systems of different ranges.
     pub fn first_reply(&self, side: Side, pair: &Pair, step: u64) -> Option<u64>
         ensures { FirstOf (Reply (meant L.System.means R.System.means self.now) side pair.now step) result }
     {
-        if !self.has_one_range() {
-            return None;
-        }
         let count = self.step_count(opposite(side), pair);
-        self.first_reply_among(side, pair, step, count)
+        self.aligned()?.first_reply_among(side, pair, step, count)
     }
 }

@@ -1,8 +1,10 @@
-ghost use Rattle.std.specs.Prelude.{◌≡◌};
+ghost use Rattle.std.specs.Prelude.{◌≡◌, ℕ, ◌<◌, Decides};
 ghost use Rattle.questions.specs.Asking.{first_no, refusal_of};
-ghost use Rattle.judge.specs.Comparing.{comparing, meant, OneRange};
+ghost use Rattle.judge.specs.Comparing.{comparing, meant};
+ghost use Rattle.judge.specs.Likeness.{Reply};
 ghost use Rattle.judge.specs.Judged.{steps_asked, pair_asked, judge_refusal, Judged};
 
+use crate::aligned::Aligned;
 use crate::comparison::{Comparison, opposite};
 use crate::fault::Fault;
 use model::state::Pair;
@@ -27,33 +29,36 @@ impl Pass {
     }
 }
 
-impl<L: System, R: System> Comparison<'_, L, R> {
+impl<L: System, R: System> Aligned<'_, L, R> {
+    /// Whether the step has a reply among the first `count` steps of the pair's state on the opposite side.
+    fn is_answered(&self, side: Side, pair: &Pair, step: u64, count: u64) -> bool
+        ensures { Decides result ((j : ℕ) × ((j < count) × Reply (meant L.System.means R.System.means self.now.comparison.now) side pair.now step j)) }
+    {
+        self.first_reply_among(side, pair, step, count).is_some()
+    }
+
     /// The first step of the pair's state on the side that has no reply.
     fn first_without_reply(&self, side: Side, pair: &Pair) -> Option<u64>
-        requires { OneRange (meant L.System.means R.System.means self.now) }
-        ensures { result ≡ first_no (steps_asked (meant L.System.means R.System.means self.now) side pair.now) }
+        ensures { result ≡ first_no (steps_asked (meant L.System.means R.System.means self.now.comparison.now) side pair.now) }
     {
-        let count = self.step_count(opposite(side), pair);
-        for step in 0..self.step_count(side, pair) {
-            let Some(_) = self.first_reply_among(side, pair, step, count) else {
-                return Some(step);
-            };
-        }
-        None
+        let count = self.comparison.step_count(opposite(side), pair);
+        (0..self.comparison.step_count(side, pair)).find(|&step| !self.is_answered(
+            side, pair, step, count,
+        ))
     }
 
     /// The questions to one record of the relation, whose number is `k`.
     fn judge_pair(&self, k: usize, pair: &Pair) -> Result<(), Fault>
-        requires { OneRange (meant L.System.means R.System.means self.now) }
-        ensures { refusal_of judge_refusal result ≡ first_no (pair_asked (meant L.System.means R.System.means self.now) k pair.now) }
+        ensures { refusal_of judge_refusal result ≡ first_no (pair_asked (meant L.System.means R.System.means self.now.comparison.now) k pair.now) }
     {
-        if !self.left.is_lawful(&pair.left) {
+        let Comparison { left, right, .. } = self.comparison;
+        if !left.is_lawful(&pair.left) {
             return Err(Fault::LeftUnlawful { pair: k });
         }
-        if !self.right.is_lawful(&pair.right) {
+        if !right.is_lawful(&pair.right) {
             return Err(Fault::RightUnlawful { pair: k });
         }
-        if self.left.shown(&pair.left).bits != self.right.shown(&pair.right).bits {
+        if left.shown(&pair.left) != right.shown(&pair.right) {
             return Err(Fault::Shown { pair: k });
         }
         if let Some(step) = self.first_without_reply(Side::Left, pair) {
@@ -80,14 +85,12 @@ pub fn judge<'a, L: System, R: System>(
         right,
         relation,
     };
-    if !comparison.has_one_range() {
-        return Err(Fault::Ranges);
-    }
+    let aligned = comparison.aligned().ok_or(Fault::Ranges)?;
     if relation.len() > MOST {
         return Err(Fault::TooMany);
     }
     for (k, pair) in relation.iter().enumerate() {
-        comparison.judge_pair(k, pair)?;
+        aligned.judge_pair(k, pair)?;
     }
     Ok(Pass {
         count: relation.len(),

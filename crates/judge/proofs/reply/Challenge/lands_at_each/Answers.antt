@@ -1,0 +1,13 @@
+use Rattle.std.proofs.Common.{rules, arith}
+use Rattle.std.proofs.lemmas.Int.{ints, to_z-of_z}
+use Rattle.judge.specs.Comparing.{meant}
+use Rattle.judge.specs.Likeness.{LandsAt}
+use Rattle.judge.proofs.EachValue.{decides_all}
+use Rattle.judge.proofs.reply.Challenge.lands_at_each.Goals as goal
+
+pub returns : goal.returns
+returns g c =
+    let x = meant g.L.System.means g.R.System.means c.args.self.now.between.now.comparison.now in
+    let own = c.args.self.now in
+    decides_all _ _ (LandsAt x own.side own.pair.now own.step c.args.reply) (λ v q k. search rules) (λ v q k. search rules) _ _ _ x.left.lo x.left.hi
+    (grind (arith, ints, to_z-of_z)) (grind (arith, ints, to_z-of_z)) c.new.ensures.exhausted c.all.ensures.ran

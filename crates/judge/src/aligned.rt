@@ -1,0 +1,30 @@
+ghost use Rattle.std.specs.Prelude.{◌≡◌, Some, MatchOption};
+ghost use Rattle.judge.specs.Comparing.{meant, label_on, OneRange};
+
+use crate::comparison::Comparison;
+use model::label::Label;
+use model::state::Pair;
+use questions::Side;
+use systems::System;
+
+/// A comparison of two systems that have one range.
+#[derive(Drop)]
+pub(crate) struct Aligned<'a, L: System, R: System> {
+    pub(crate) comparison: &'a Comparison<'a, L, R>,
+    ghost one_range: { OneRange (meant L.System.means R.System.means comparison.now) },
+}
+
+impl<L: System, R: System> Comparison<'_, L, R> {
+    /// The comparison of systems that have one range; none where their ranges differ.
+    pub(crate) fn aligned(&self) -> Option<Aligned<'_, L, R>>
+        ensures { MatchOption result (OneRange (meant L.System.means R.System.means self.now) → ⊥) (λ x. x.comparison.now ≡ self.now) }
+    {
+        let left = self.left.range();
+        let right = self.right.range();
+        if left.lo == right.lo && left.hi == right.hi {
+            Some(Aligned { comparison: self })
+        } else {
+            None
+        }
+    }
+}
