@@ -1,5 +1,6 @@
 -- The frame of a job's input: its length, and what each record is by its kind, side, position and zeros.
-use Rattle.std.specs.Prelude.{ℕ, ◌+◌, ◌%◌, Bool, false, ◌&&◌, List, ◌∷◌, length, drop, Some, Option, Ok, Err, Result, ◌==◌, nat_le, nat_lt, slice_index}
+use Rattle.std.specs.Prelude.{ℕ, ◌+◌, ◌%◌, Bool, false, ◌&&◌, List, ◌∷◌, ◌++◌, length, drop, Some, Option, Ok, Err, Result, ◌==◌, nat_le, nat_lt, slice_index, codes}
+use Rattle.std.specs.Fmt.{decimal}
 use Rattle.std.specs.List.{list_all}
 use Rattle.lists.specs.Words.{records}
 use Rattle.questions.specs.Asking.{Question, put, ask, numbered, refuse, refuse_at}
@@ -49,3 +50,8 @@ frame_refusal (Record k) = refuse_at 23 k
 
 abbrev pub frame_refusal_of : FrameFault → Option Refusal
 frame_refusal_of f = Some (frame_refusal f)
+
+-- what a fault is called
+abbrev pub fault_text : FrameFault → List ℕ
+fault_text Length = codes "the length is no multiple of 64 from 128 to 65536"
+fault_text (Record k) = codes "record " ++ decimal k ++ codes " is not framed"

@@ -1,9 +1,9 @@
-ghost use Rattle.std.specs.Prelude.{◌≡◌, ◌==◌};
+ghost use Rattle.std.specs.Prelude.{◌≡◌, ◌==◌, Some};
 ghost use Rattle.std.specs.List.{list_all};
 ghost use Rattle.lists.specs.Words.{records};
 ghost use Rattle.questions.specs.Asking.{first_no, refusal_of};
 ghost use Rattle.questions.specs.Sides.{side_byte};
-ghost use Rattle.frames.specs.Frames.{placed, framed, frames_asked, frame_refusal, frame_refusal_of};
+ghost use Rattle.frames.specs.Frames.{placed, framed, frames_asked, frame_refusal, frame_refusal_of, fault_text};
 
 use crate::kind::Kind;
 use questions::{Refusal, Side};
@@ -39,12 +39,11 @@ impl FrameFault {
 }
 
 impl fmt::Display for FrameFault {
+    ghost output = { λ fault. Some (fault_text fault) };
+
     fn fmt<W: fmt::Write>(&self, f: &mut fmt::Formatter<W>) -> fmt::Result {
-        match self {
-            FrameFault::Length => write!(
-                f,
-                "the length is no multiple of {RECORD} from {SHORTEST} to {LONGEST}"
-            ),
+        match *self {
+            FrameFault::Length => f.write_str("the length is no multiple of 64 from 128 to 65536"),
             FrameFault::Record { number } => write!(f, "record {number} is not framed"),
         }
     }

@@ -1,4 +1,5 @@
-ghost use Rattle.std.specs.Prelude.{◌≡◌, ◌≤◌};
+ghost use Rattle.std.specs.Prelude.{◌≡◌, ◌≤◌, ◌++◌, Some, codes};
+ghost use Rattle.std.specs.Fmt.{decimal};
 ghost use Rattle.frames.specs.Kinds.{kind_byte, kind_of, width_of};
 
 use std::error::Error;
@@ -62,6 +63,8 @@ impl Kind {
 }
 
 impl fmt::Display for NoKind {
+    ghost output = { λ e. Some (codes "no kind of record has the byte " ++ decimal e.0) };
+
     fn fmt<W: fmt::Write>(&self, f: &mut fmt::Formatter<W>) -> fmt::Result {
         write!(f, "no kind of record has the byte {}", self.0)
     }
