@@ -15,8 +15,8 @@ module _ {F B : Type 0} (g : Mut F (ℕ × Unit {0}) B) (f : F) where
         let is = gives i made.1 made.0 (omega arith) made.3 in
         let rest = filled_from ys (i + 1) n (λ j y q m c. gives j y q (omega arith) c) (subst (λ (p : F). IsFromFnResultFrom g p ys (i + 1) n) is.0 made.4) in
         elim (eq-or-lt_of_le l) [
-          inl e ↦ subst (λ (m : ℕ). P m (get_or ys m d)) e (subst (P i) (sym (made.2.1 d)) is.1)
-        | inr m ↦ rest k d (omega arith) (omega arith)
+          | inl e ↦ subst (λ (m : ℕ). P m (get_or ys m d)) e (subst (P i) (sym (made.2.1 d)) is.1)
+          | inr m ↦ rest k d (omega arith) (omega arith)
         ]
 
     -- what holds of the result of each call holds of the element at its place

@@ -10,6 +10,6 @@ returns g c =
     let eq = g.R.PartialEq.eq in
     let w = c.args.wanted.now in
     let found : FirstOf (Stands c.args.records.now w) c.position.result =
-        first_found w (λ x. eq x w) (λ x. g.met.R.Exact.exact x w) c.args.records.now _
-        (position_from_yields_List (λ x. eq x w) _ _ c.position.result c.position.ensures.ran (YieldsList-from_slice c.args.records.now cc) (λ x b q k. search (rules, tests))) in
+    first_found w (λ x. eq x w) (λ x. g.met.R.Exact.exact x w) c.args.records.now _
+    (position_from_yields_List (λ x. eq x w) _ _ c.position.result c.position.ensures.ran (YieldsList-from_slice c.args.records.now cc) (λ x b q k. search (rules, tests))) in
     search rules
