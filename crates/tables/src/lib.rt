@@ -1,23 +1,18 @@
 #![tactic(auto)]
 
-ghost use Rattle.std.specs.Prelude.{◌≡◌, ℕ, ◌/◌, ◌<◌, List, length, IfOk, Option};
-ghost use Rattle.std.specs.Option.{ok_or};
-ghost use Rattle.lists.specs.Words.{Stands, records, gathered};
+ghost use Rattle.std.specs.Prelude.{◌≡◌, ℕ, ◌<◌, List, IfOk, Option, is_none, position};
+ghost use Rattle.lists.specs.Words.{records, gathered};
 ghost use Rattle.questions.specs.Certain.{Certain};
 ghost use Rattle.tables.specs.Table.{Answers, table_refusal};
-ghost use Rattle.tables.specs.declared.BadRecord.{BadRecord};
-ghost use Rattle.tables.specs.declared.TableFault.TheVariants.{Record, Memory};
+ghost use Rattle.tables.specs.declared.TableFault.TheVariants.{Memory};
 
-use std::alloc::{AllocError, AllocFailed, Global};
-
-/// A record that is not as laid out, by its number in its table.
-#[derive(Clone, Copy, Debug)]
-pub struct BadRecord {
-    pub number: usize,
-}
+use questions::{Refusal, Side};
+use std::alloc::{AllocError, Global};
+use std::error::Error;
+use std::fmt;
 
 /// Why a table is not loaded.
-#[derive(Clone, Copy, Debug)]
+#[derive(Clone, Copy, PartialEq, Eq, Debug)]
 pub enum TableFault {
     /// The bytes are no whole records, or they are too many.
     Count,
@@ -26,66 +21,85 @@ pub enum TableFault {
     Memory,
 }
 
-impl From<BadRecord> for TableFault {
-    ghost from_gives = { λ e r. r ≡ Record e.number };
-
-    fn from(e: BadRecord) -> TableFault {
-        TableFault::Record { number: e.number }
+impl TableFault {
+    /// The refusal that the fault stands for, where the questions to the whole table and to each record have these numbers.
+    pub fn refusal(&self, whole: u8, each: u8) -> Option<Refusal>
+        ensures { result ≡ table_refusal whole each self.now }
+    {
+        let (question, item) = match *self {
+            TableFault::Count => (whole, 0),
+            TableFault::Record { number } => (each, number),
+            TableFault::Memory => return None,
+        };
+        Some(Refusal {
+            question,
+            side: Side::Left,
+            item,
+            step: 0,
+        })
     }
 }
 
-impl<T: Drop> From<AllocFailed<T>> for TableFault {
+impl From<AllocError> for TableFault {
     ghost from_gives = { λ _ r. r ≡ Memory };
 
-    fn from(_e: AllocFailed<T>) -> TableFault {
+    fn from(_e: AllocError) -> TableFault {
         TableFault::Memory
     }
 }
 
+impl fmt::Display for TableFault {
+    fn fmt<W: fmt::Write>(&self, f: &mut fmt::Formatter<W>) -> fmt::Result {
+        match self {
+            TableFault::Count => f.write_str("the bytes are no whole records, or too many"),
+            TableFault::Record { number } => write!(f, "record {number} is not as laid out"),
+            TableFault::Memory => f.write_str("out of memory"),
+        }
+    }
+}
+
+impl Error for TableFault {}
+
 /// How the records of a table are laid out in bytes: how many bytes a record has, how many records a table has at the
 /// most, and what a record's bytes stand for, if they are as laid out.
 pub trait Layout<R> {
-    ghost width: { Self → ℕ };
+    const WIDTH: usize;
 
-    ghost most: { Self → ℕ };
+    const MOST: usize;
+
+    ghost WIDTH: { ℕ };
+
+    ghost MOST: { ℕ };
 
     ghost parse: { Self → List ℕ → Option R };
 
-    fn width(&self) -> usize
-        ensures is { result ≡ width self.now }
-        ensures some { 0 < result };
+    fn read(&self, bytes: &[u8]) -> Option<R>
+        ensures { result ≡ parse self.now bytes.now };
 
-    fn most(&self) -> usize
-        ensures { result ≡ most self.now };
-
-    /// The record in `bytes`, which has the given number in its table.
-    fn read(&self, bytes: &[u8], number: usize) -> Result<R, BadRecord>
-        ensures { result ≡ ok_or (parse self.now bytes.now) (record { number = number }) };
+    ghost some: { 0 < WIDTH };
 }
 
-/// The bytes of the record with the number `k`, where records have `width` bytes.
-fn nth_record(bytes: &[u8], width: usize, k: usize) -> &[u8]
-    requires { k < length bytes.now / width }
-    ensures { Stands (records width bytes.now) result.now k }
+/// The number of the first record that is not as laid out.
+fn first_unread<R: Drop, L: Layout<R>>(layout: &L, bytes: &[u8]) -> Option<usize>
+    ensures { result ≡ position (λ r. is_none (L.parse layout.now r)) (records L.WIDTH bytes.now) }
 {
-    let start = width * k;
-    &bytes[start..start + width]
+    bytes
+        .chunks_exact(L::WIDTH)
+        .position(|record| layout.read(record).is_none())
 }
 
 /// Puts the questions to the whole table, and then to each record. It asks for no memory.
 pub fn check<R: Drop, L: Layout<R>>(layout: &L, bytes: &[u8]) -> Result<(), TableFault>
     ensures certain { (p q : ℕ) → Certain (table_refusal p q) result }
-    ensures answers { Answers result (L.Layout.width layout.now) (L.Layout.most layout.now) (L.Layout.parse layout.now) bytes.now }
+    ensures answers { Answers result L.WIDTH L.MOST (L.parse layout.now) bytes.now }
 {
-    let width = layout.width();
-    let count = bytes.len() / width;
-    if bytes.len() % width != 0 || count > layout.most() {
+    if bytes.len() % L::WIDTH != 0 || bytes.len() / L::WIDTH > L::MOST {
         return Err(TableFault::Count);
     }
-    for k in 0..count {
-        let _ = layout.read(nth_record(bytes, width, k), k)?;
+    match first_unread(layout, bytes) {
+        Some(number) => Err(TableFault::Record { number }),
+        None => Ok(()),
     }
-    Ok(())
 }
 
 /// The records of a table. Memory is asked for once every question is answered yes.
@@ -94,14 +108,14 @@ pub fn load<R: Drop, L: Layout<R>>(
     heap: Global,
     bytes: &[u8],
 ) -> Result<Vec<R>, TableFault>
-    ensures answers { Answers result (L.Layout.width layout.now) (L.Layout.most layout.now) (L.Layout.parse layout.now) bytes.now }
-    ensures loads { IfOk result (λ v. v.items ≡ gathered (L.Layout.parse layout.now) (records (L.Layout.width layout.now) bytes.now)) }
+    ensures answers { Answers result L.WIDTH L.MOST (L.parse layout.now) bytes.now }
+    ensures loads { IfOk result (λ v. v.items ≡ gathered (L.parse layout.now) (records L.WIDTH bytes.now)) }
 {
     check(layout, bytes)?;
-    let width = layout.width();
-    let mut items = Vec::new(heap);
-    for k in 0..bytes.len() / width {
-        items.push(layout.read(nth_record(bytes, width, k), k)?)?;
-    }
-    Ok(items)
+    let records = bytes.chunks_exact(L::WIDTH);
+    Ok(
+        records
+            .filter_map(|record| layout.read(record))
+            .collect(heap)?,
+    )
 }
