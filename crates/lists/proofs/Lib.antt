@@ -9,3 +9,4 @@ pub mod Gathered
 pub mod Kept
 pub mod Mapped
 pub mod Filled
+pub mod Every

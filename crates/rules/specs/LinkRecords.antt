@@ -8,6 +8,10 @@ use Rattle.rules.specs.declared.link.LinkKind.{LinkKind}
 use Rattle.rules.specs.declared.link.LinkKind.TheVariants.{Joined, Apart}
 use Rattle.rules.specs.declared.link.Link.{Link}
 
+-- the kind that a byte stands for: 1 joined, 2 apart
+abbrev pub kind_of : ℕ → Option LinkKind
+kind_of code = cond (code == 1) (Some Joined) (given (code == 2) Apart)
+
 abbrev pub is_link : List ℕ → Bool
 is_link r = length r == 3 && ((slice_index r 0 == 1 || slice_index r 0 == 2) && (nat_le (slice_index r 1) 5 && nat_le (slice_index r 2) 5))
 

@@ -1,19 +1,19 @@
 ghost use Rattle.std.specs.Prelude.{◌≡◌};
-ghost use Rattle.rules.specs.Faults.{rule_fault_of, rule_refusal};
+ghost use Rattle.rules.specs.Faults.{rule_refusal};
+ghost use Rattle.rules.specs.declared.fault.RuleFault.TheVariants.{Table};
 
 use questions::{Refusal, Side};
+use std::error::Error;
+use std::fmt;
 use tables::TableFault;
 
 /// Why a rule is not made.
-#[derive(Clone, Copy, Debug)]
+#[derive(Clone, Copy, PartialEq, Eq, Debug)]
 pub enum RuleFault {
-    /// The bytes are no whole records, or they are too many.
-    Count,
-    /// This record is not as laid out.
-    Record { number: usize },
+    /// The table of its records is not loaded.
+    Table(TableFault),
     /// The tuner's limit is above 8.
     Limit,
-    Memory,
 }
 
 impl RuleFault {
@@ -21,29 +21,33 @@ impl RuleFault {
     pub fn refusal(&self) -> Option<Refusal>
         ensures { result ≡ rule_refusal self.now }
     {
-        let (question, item) = match *self {
-            RuleFault::Count => (2, 0),
-            RuleFault::Record { number } => (3, number),
-            RuleFault::Limit => (4, 0),
-            RuleFault::Memory => return None,
-        };
-        Some(Refusal {
-            question,
-            side: Side::Left,
-            item,
-            step: 0,
-        })
+        match self {
+            RuleFault::Table(fault) => fault.refusal(2, 3),
+            RuleFault::Limit => Some(Refusal {
+                question: 4,
+                side: Side::Left,
+                item: 0,
+                step: 0,
+            }),
+        }
     }
 }
 
 impl From<TableFault> for RuleFault {
-    ghost from_gives = { λ e r. r ≡ rule_fault_of e };
+    ghost from_gives = { λ e r. r ≡ Table e };
 
     fn from(e: TableFault) -> RuleFault {
-        match e {
-            TableFault::Count => RuleFault::Count,
-            TableFault::Record { number } => RuleFault::Record { number },
-            TableFault::Memory => RuleFault::Memory,
+        RuleFault::Table(e)
+    }
+}
+
+impl fmt::Display for RuleFault {
+    fn fmt<W: fmt::Write>(&self, f: &mut fmt::Formatter<W>) -> fmt::Result {
+        match self {
+            RuleFault::Table(fault) => write!(f, "{fault}"),
+            RuleFault::Limit => f.write_str("the limit is above 8"),
         }
     }
 }
+
+impl Error for RuleFault {}

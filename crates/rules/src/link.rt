@@ -1,18 +1,47 @@
-ghost use Rattle.std.specs.Prelude.{◌≡◌};
-ghost use Rattle.rules.specs.LinkRecords.{link_of, met};
+ghost use Rattle.std.specs.Prelude.{◌≡◌, ok_or};
+ghost use Rattle.rules.specs.LinkRecords.{kind_of, link_of, met};
+ghost use Rattle.std.proofs.Common.{rules};
 
 use model::group_set::GroupSet;
-use tables::{BadRecord, Layout};
+use std::error::Error;
+use std::fmt;
+use tables::Layout;
 
 /// Whether two units must share a group, or must not.
-#[derive(Clone, Copy, Debug)]
+#[derive(Clone, Copy, PartialEq, Eq, Debug)]
 pub enum LinkKind {
     Joined,
     Apart,
 }
 
+/// A byte that stands for no kind of link.
+#[derive(Clone, Copy, PartialEq, Eq, Debug)]
+pub struct NoLinkKind(pub u8);
+
+impl TryFrom<u8> for LinkKind {
+    type Error = NoLinkKind;
+
+    ghost try_from_gives = { λ code r. r ≡ ok_or (kind_of code) (record { 0 = code }) };
+
+    fn try_from(code: u8) -> Result<LinkKind, NoLinkKind> {
+        match code {
+            1 => Ok(LinkKind::Joined),
+            2 => Ok(LinkKind::Apart),
+            _ => Err(NoLinkKind(code)),
+        }
+    }
+}
+
+impl fmt::Display for NoLinkKind {
+    fn fmt<W: fmt::Write>(&self, f: &mut fmt::Formatter<W>) -> fmt::Result {
+        write!(f, "no kind of link has the byte {}", self.0)
+    }
+}
+
+impl Error for NoLinkKind {}
+
 /// A requirement on two units.
-#[derive(Clone, Copy, Debug)]
+#[derive(Clone, Copy, PartialEq, Eq, Debug)]
 pub struct Link {
     pub kind: LinkKind,
     pub one: usize,
@@ -24,10 +53,10 @@ impl Link {
     pub fn is_met(&self, sets: &[GroupSet]) -> bool
         ensures { result ≡ met sets.now self.now }
     {
-        if self.one >= sets.len() || self.other >= sets.len() {
+        let (Some(one), Some(other)) = (sets.get(self.one), sets.get(self.other)) else {
             return false;
-        }
-        let shared = sets[self.one].is_linked(sets[self.other]);
+        };
+        let shared = one.is_linked(*other);
         match self.kind {
             LinkKind::Joined => shared,
             LinkKind::Apart => !shared,
@@ -40,34 +69,27 @@ impl Link {
 pub struct LinkLayout;
 
 impl Layout<Link> for LinkLayout {
-    ghost width = { λ _. 3 };
+    const WIDTH: usize = 3;
 
-    ghost most = { λ _. 16 };
+    const MOST: usize = 16;
+
+    ghost WIDTH = { 3 };
+
+    ghost MOST = { 16 };
 
     ghost parse = { λ _. link_of };
 
-    fn width(&self) -> usize {
-        3
-    }
+    ghost some = { Prim.search rules };
 
-    fn most(&self) -> usize {
-        16
-    }
-
-    fn read(&self, bytes: &[u8], number: usize) -> Result<Link, BadRecord> {
+    fn read(&self, bytes: &[u8]) -> Option<Link> {
         let [kind, one, other] = bytes else {
-            return Err(BadRecord { number });
-        };
-        let kind = match *kind {
-            1 => LinkKind::Joined,
-            2 => LinkKind::Apart,
-            _ => return Err(BadRecord { number }),
+            return None;
         };
         if *one > 5 || *other > 5 {
-            return Err(BadRecord { number });
+            return None;
         }
-        Ok(Link {
-            kind,
+        Some(Link {
+            kind: LinkKind::try_from(*kind).ok()?,
             one: usize::from(*one),
             other: usize::from(*other),
         })

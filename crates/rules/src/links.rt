@@ -33,11 +33,6 @@ impl Rule for Links {
 
     fn allows(&self, placement: &Placement) -> bool {
         let sets = placement.sets();
-        for link in self.links.iter() {
-            if !link.is_met(sets) {
-                return false;
-            }
-        }
-        true
+        self.links.iter().all(|link| link.is_met(sets))
     }
 }

@@ -1,12 +1,13 @@
 ghost use Rattle.std.specs.Prelude.{◌≡◌, IfOk};
 ghost use Rattle.questions.specs.Asking.{first_no, refusal_of};
 ghost use Rattle.rules.specs.Faults.{rule_refusal};
-ghost use Rattle.rules.specs.Parkings.{parks, parking_allows, parking_asked, places_of};
+ghost use Rattle.rules.specs.Parkings.{recorded, parks, parking_allows, parking_asked, places_of};
 
 use crate::fault::RuleFault;
 use crate::place::{Place, PlaceLayout};
 use crate::rule::Rule;
 use lookup::first_equal;
+use model::group_set::GroupSet;
 use model::placement::Placement;
 use std::alloc::Global;
 use tables::load;
@@ -27,17 +28,23 @@ impl Parking {
             places: load(&PlaceLayout, heap, bytes)?,
         })
     }
+
+    /// Whether the set is recorded for the unit.
+    fn records(&self, unit: usize, set: GroupSet) -> bool
+        ensures { result ≡ recorded self.now.places.items unit set }
+    {
+        first_equal(&self.places, &Place { unit, set }).is_some()
+    }
 }
 
 impl Rule for Parking {
     ghost allowed = { parking_allows };
 
     fn allows(&self, placement: &Placement) -> bool {
-        for (unit, set) in placement.sets().iter().enumerate() {
-            if first_equal(&self.places, &Place { unit, set: *set }).is_none() {
-                return false;
-            }
-        }
-        true
+        placement
+            .sets()
+            .iter()
+            .enumerate()
+            .all(|(unit, set)| self.records(unit, *set))
     }
 }

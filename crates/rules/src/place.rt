@@ -1,10 +1,11 @@
 ghost use Rattle.std.specs.Prelude.{◌≡◌};
 ghost use Rattle.std.proofs.Common.{rules};
 ghost use Rattle.rules.specs.Places.{place_of};
+ghost use Rattle.std.proofs.Common.{rules};
 
 use lookup::Exact;
 use model::group_set::GroupSet;
-use tables::{BadRecord, Layout};
+use tables::Layout;
 
 /// A parking record: this unit may sit on this set.
 #[derive(Clone, Copy, PartialEq, Eq, Debug)]
@@ -22,28 +23,26 @@ impl Exact for Place {
 pub struct PlaceLayout;
 
 impl Layout<Place> for PlaceLayout {
-    ghost width = { λ _. 2 };
+    const WIDTH: usize = 2;
 
-    ghost most = { λ _. 48 };
+    const MOST: usize = 48;
+
+    ghost WIDTH = { 2 };
+
+    ghost MOST = { 48 };
 
     ghost parse = { λ _. place_of };
 
-    fn width(&self) -> usize {
-        2
-    }
+    ghost some = { Prim.search rules };
 
-    fn most(&self) -> usize {
-        48
-    }
-
-    fn read(&self, bytes: &[u8], number: usize) -> Result<Place, BadRecord> {
+    fn read(&self, bytes: &[u8]) -> Option<Place> {
         let [unit, set] = bytes else {
-            return Err(BadRecord { number });
+            return None;
         };
         if *unit > 5 {
-            return Err(BadRecord { number });
+            return None;
         }
-        Ok(Place {
+        Some(Place {
             unit: usize::from(*unit),
             set: GroupSet { bits: *set },
         })

@@ -28,11 +28,9 @@ impl Rule for Tuner {
     ghost allowed = { λ x. tuned_to x.limit };
 
     fn allows(&self, placement: &Placement) -> bool {
-        for set in placement.sets() {
-            if set.count() > u32::from(self.limit) {
-                return false;
-            }
-        }
-        true
+        placement
+            .sets()
+            .iter()
+            .all(|set| set.count() <= u32::from(self.limit))
     }
 }

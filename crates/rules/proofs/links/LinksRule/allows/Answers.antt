@@ -1,20 +1,14 @@
-use Rattle.std.proofs.Common.{sym, ◌∙◌}
-use Rattle.std.proofs.lemmas.Option.{slice_get-get_or}
-use Rattle.lists.proofs.Loops.{every_more, every_fails, every_all}
+use Rattle.std.proofs.Common.{ap, ◌∙◌, rules, vec_items}
+use borrow.Author.Tests.{tests}
+use Rattle.std.proofs.lemmas.Iterator.{YieldsList-from_slice}
+use Rattle.std.proofs.lemmas.Iterator.Search.{all_from_yields_List}
+use Rattle.lists.proofs.Every.{all_every}
 use Rattle.rules.specs.LinkRecords.{met}
-use Rattle.rules.proofs.Meeting.{meets_same}
+use Rattle.rules.specs.LinkRules.{meets}
 use Rattle.rules.proofs.links.LinksRule.allows.Goals as goal
-
-pub returns-then-not-is_met : goal.returns-then-not-is_met
-returns-then-not-is_met c =
-    sym (every_fails (λ _. met _) c.deref-link-items.result.now c.loop-link.link-index _ (slice_get-get_or _ _ _ c.loop-link-test.true) (sym c.if-not-is_met.ensures))
-    ∙ c.loop-link.invariant ∙ meets_same _ _ _ _ c.deref-link-items.ensures.value c.sets-sets.ensures
-
-pub loop-link-preserved : goal.loop-link-preserved
-loop-link-preserved c =
-    every_more (λ _. met _) c.deref-link-items.result.now c.loop-link.link-index _ (slice_get-get_or _ _ _ c.loop-link-test.true) (sym c.if-not-is_met.ensures) ∙ c.loop-link.invariant
 
 pub returns : goal.returns
 returns c =
-    sym (every_all (λ _. met _) c.deref-link-items.result.now c.loop-link.link-index c.loop-link-test.false)
-    ∙ c.loop-link.invariant ∙ meets_same _ _ _ _ c.deref-link-items.ensures.value c.sets-sets.ensures
+    let links = vec_items c.args.self.now.links in
+    all_from_yields_List (met c.sets-sets.result.now) _ _ _ c.all.ensures.ran (YieldsList-from_slice links cc) (λ x b q k. search (rules, tests))
+    ∙ all_every _ links ∙ ap (meets links) c.sets-sets.ensures

@@ -1,24 +1,16 @@
-use Rattle.std.proofs.Common.{vec_items, sym, ap, ◌∙◌}
-use Rattle.std.proofs.lemmas.Option.{slice_get-get_or}
-use Rattle.lists.proofs.Loops.{every_more, every_fails, every_all}
+use Rattle.std.proofs.Common.{ap, ◌∙◌, rules, vec_items}
+use borrow.Author.Tests.{tests}
+use Rattle.std.proofs.lemmas.Iterator.{YieldsList-from_slice}
+use Rattle.std.proofs.lemmas.Iterator.Consumers.{YieldsList-at, YieldsList-from_enumerate}
+use Rattle.std.proofs.lemmas.Iterator.Search.{all_from_yields_List}
+use Rattle.lists.proofs.Every.{all_numbered}
 use Rattle.rules.specs.Parkings.{recorded, parks}
-use Rattle.rules.proofs.Parked.{first_recorded}
 use Rattle.rules.proofs.parking.ParkingRule.allows.Goals as goal
-
-pub returns-then-is_none : goal.returns-then-is_none
-returns-then-is_none c =
-    let ps = vec_items c.args.self.now.places in
-    let none = first_recorded ps _ _ _ _ c.deref.ensures.value c.first_equal.ensures c.if-is_none.ensures in
-    sym (every_fails (recorded ps) c.sets-set-items.result.now c.loop-unit.unit _ (slice_get-get_or _ _ _ c.loop-unit-test.true) none)
-    ∙ c.loop-unit.invariant ∙ ap (parks ps) c.sets-set-items.ensures
-
-pub loop-unit-preserved : goal.loop-unit-preserved
-loop-unit-preserved c =
-    let ps = vec_items c.args.self.now.places in
-    let some = first_recorded ps _ _ _ _ c.deref.ensures.value c.first_equal.ensures c.if-is_none.ensures in
-    every_more (recorded ps) c.sets-set-items.result.now c.loop-unit.unit _ (slice_get-get_or _ _ _ c.loop-unit-test.true) some ∙ c.loop-unit.invariant
 
 pub returns : goal.returns
 returns c =
-    sym (every_all (recorded (vec_items c.args.self.now.places)) c.sets-set-items.result.now c.loop-unit.unit c.loop-unit-test.false)
-    ∙ c.loop-unit.invariant ∙ ap (parks (vec_items c.args.self.now.places)) c.sets-set-items.ensures
+    let ps = vec_items c.args.self.now.places in
+    let sets = c.sets.result.now in
+    all_from_yields_List (λ p. recorded ps p.0 p.1) _ _ _ c.all.ensures.ran
+    (YieldsList-from_enumerate (YieldsList-at c.enumerate.ensures.source (YieldsList-from_slice sets cc)) c.enumerate.ensures.count) (λ x b q k. search (rules, tests))
+    ∙ all_numbered (recorded ps) 0 sets ∙ ap (parks ps) c.sets.ensures
