@@ -23,7 +23,7 @@ use rows::layout::RowLayout;
 use rules::fault::RuleFault;
 use rules::link::LinkLayout;
 use rules::tuner::Tuner;
-use tables::check;
+use tables::{TableFault, check};
 
 /// Questions 2 and 3 to the links of a side.
 fn check_links(bytes: &[u8], side: Side) -> Result<(), RuleFault>
@@ -31,7 +31,7 @@ fn check_links(bytes: &[u8], side: Side) -> Result<(), RuleFault>
     ensures refuses { refusal_of rule_refusal result ≡ first_no (links_asked (side_bytes Links side bytes.now)) }
 {
     // more bytes than there is room for are more than 16 links
-    let links = payloads(bytes, Kind::Link, side).ok_or(RuleFault::Count)?;
+    let links = payloads(bytes, Kind::Link, side).ok_or(TableFault::Count)?;
     check(&LinkLayout, links.as_slice())?;
     Ok(())
 }
@@ -45,7 +45,7 @@ fn check_network(bytes: &[u8], side: Side, range: Range, units: usize) -> Result
         return Err(NetworkFault::Units);
     }
     // more bytes than there is room for are more than 64 rows
-    let rows = payloads(bytes, Kind::Row, side).ok_or(NetworkFault::RowCount)?;
+    let rows = payloads(bytes, Kind::Row, side).ok_or(TableFault::Count)?;
     check(&RowLayout { range }, rows.as_slice())?;
     Ok(())
 }

@@ -25,13 +25,14 @@ use rules::fault::RuleFault;
 use rules::links::Links;
 use rules::tuner::Tuner;
 use std::alloc::Global;
+use tables::TableFault;
 
 fn load_links(heap: Global, bytes: &[u8], side: Side) -> Result<Links, RuleFault>
     requires { None ≡ first_no (links_asked (side_bytes LinkKind side bytes.now)) }
     ensures memory { refusal_of rule_refusal result ≡ None }
     ensures means { IfOk result (λ x. links_allow x ≡ meets (links_of (side_bytes LinkKind side bytes.now))) }
 {
-    let links = payloads(bytes, Kind::Link, side).ok_or(RuleFault::Count)?;
+    let links = payloads(bytes, Kind::Link, side).ok_or(TableFault::Count)?;
     Links::load(heap, links.as_slice())
 }
 
@@ -46,7 +47,7 @@ fn load_network(
     ensures memory { refusal_of network_refusal result ≡ None }
     ensures means { IfOk result (λ n. loaded_meaning n ≡ ruled_meaning (net_in checked.range.lo checked.range.hi checked.free checked.units (side_bytes RowKind side bytes.now)) rule) }
 {
-    let rows = payloads(bytes, Kind::Row, side).ok_or(NetworkFault::RowCount)?;
+    let rows = payloads(bytes, Kind::Row, side).ok_or(TableFault::Count)?;
     Network::load(
         heap,
         checked.range,

@@ -1,19 +1,19 @@
 ghost use Rattle.std.specs.Prelude.{◌≡◌};
-ghost use Rattle.network.specs.Loads.{network_fault_of, network_refusal};
+ghost use Rattle.network.specs.Loads.{network_refusal};
+ghost use Rattle.network.specs.declared.fault.NetworkFault.TheVariants.{Rows};
 
 use questions::{Refusal, Side};
+use std::error::Error;
+use std::fmt;
 use tables::TableFault;
 
 /// Why a network is not loaded.
-#[derive(Clone, Copy, Debug)]
+#[derive(Clone, Copy, PartialEq, Eq, Debug)]
 pub enum NetworkFault {
     /// There are not 1 to 6 units.
     Units,
-    /// The bytes are no whole rows, or they are too many.
-    RowCount,
-    /// This row is not as laid out.
-    Row { number: usize },
-    Memory,
+    /// The table of its rows is not loaded.
+    Rows(TableFault),
 }
 
 impl NetworkFault {
@@ -21,29 +21,33 @@ impl NetworkFault {
     pub fn refusal(&self) -> Option<Refusal>
         ensures { result ≡ network_refusal self.now }
     {
-        let (question, item) = match *self {
-            NetworkFault::Units => (5, 0),
-            NetworkFault::RowCount => (6, 0),
-            NetworkFault::Row { number } => (7, number),
-            NetworkFault::Memory => return None,
-        };
-        Some(Refusal {
-            question,
-            side: Side::Left,
-            item,
-            step: 0,
-        })
+        match self {
+            NetworkFault::Units => Some(Refusal {
+                question: 5,
+                side: Side::Left,
+                item: 0,
+                step: 0,
+            }),
+            NetworkFault::Rows(fault) => fault.refusal(6, 7),
+        }
     }
 }
 
 impl From<TableFault> for NetworkFault {
-    ghost from_gives = { λ e r. r ≡ network_fault_of e };
+    ghost from_gives = { λ e r. r ≡ Rows e };
 
     fn from(e: TableFault) -> NetworkFault {
-        match e {
-            TableFault::Count => NetworkFault::RowCount,
-            TableFault::Record { number } => NetworkFault::Row { number },
-            TableFault::Memory => NetworkFault::Memory,
+        NetworkFault::Rows(e)
+    }
+}
+
+impl fmt::Display for NetworkFault {
+    fn fmt<W: fmt::Write>(&self, f: &mut fmt::Formatter<W>) -> fmt::Result {
+        match self {
+            NetworkFault::Units => f.write_str("there are not 1 to 6 units"),
+            NetworkFault::Rows(fault) => write!(f, "{fault}"),
         }
     }
 }
+
+impl Error for NetworkFault {}

@@ -1,25 +1,12 @@
 -- The bytes of a sheet's states. Assumes nothing.
-use Rattle.std.proofs.Common.{◌≡◌, ℕ, zero, suc, ◌+◌, ◌<◌, ◌≤◌, Bool, true, false, eqb, List, [], ◌∷◌, length, get_or, take, drop, replicate, Decides, sym, refl, ap, ◌∙◌, arith}
+use Rattle.std.proofs.Common.{◌≡◌, ℕ, zero, suc, Bool, true, eqb, List, [], ◌∷◌, length, get_or, take, drop, replicate, Decides, sym, refl, ap, ◌∙◌, arith}
 use Rattle.std.proofs.lemmas.List.{length-drop, take_all}
-use Rattle.std.proofs.lemmas.Option.{slice_get-get_or}
-use Rattle.std.proofs.lemmas.Bool.{eq-eqb, ne_eqb, eqb-true, and_parts}
+use Rattle.std.proofs.lemmas.Bool.{eqb-true, and_parts}
 use Rattle.lists.specs.Words.{every_from}
-use Rattle.lists.proofs.Loops.{every_more, every_fails, every_all}
 use Rattle.model.specs.Bytes.{zero_unit, state_of, state_bytes}
 use Rattle.model.specs.declared.unit_state.UnitState.{UnitState}
 use Rattle.model.specs.declared.state.State.{State}
 use Rattle.sheet.specs.States.{zeros, sheet_lawful, number_of, state_at}
-
--- a loop over bytes that stops at the first that is not zero
-module _ (bytes : List ℕ) (k : ℕ) (goal : Bool) (inv : every_from (λ _ b. eqb b 0) k (drop k bytes) ≡ goal) where
-  pub zeros_more : k < length bytes → get_or bytes k 0 ≡ 0 → every_from (λ _ b. eqb b 0) (k + 1) (drop (k + 1) bytes) ≡ goal
-  zeros_more h e = every_more (λ _ b. eqb b 0) bytes k (get_or bytes k 0) (slice_get-get_or bytes k 0 h) (eq-eqb (get_or bytes k 0) 0 e) ∙ inv
-
-  pub zeros_fail : k < length bytes → (get_or bytes k 0 ≡ 0 → ⊥) → false ≡ goal
-  zeros_fail h e = sym (every_fails (λ _ b. eqb b 0) bytes k (get_or bytes k 0) (slice_get-get_or bytes k 0 h) (ne_eqb (get_or bytes k 0) 0 e)) ∙ inv
-
-  pub zeros_all : length bytes ≤ k → true ≡ goal
-  zeros_all h = sym (every_all (λ _ b. eqb b 0) bytes k h) ∙ inv
 
 -- the bytes after the first, as code cuts them out
 pub after_first : (bytes : List ℕ) → length bytes ≡ 24 → take 23 (drop 1 bytes) ≡ drop 1 bytes

@@ -1,11 +1,10 @@
 -- The questions 8 and 9, which are put to a sheet that is loaded.
-use Rattle.std.specs.Prelude.{ℕ, List, ℤ, Some, None, Option}
-use Rattle.questions.specs.Asking.{Question, refuse, refuse_at}
+use Rattle.std.specs.Prelude.{List, ℕ, ℤ, Option}
+use Rattle.questions.specs.Asking.{Question}
 use Rattle.questions.specs.declared.Refusal.{Refusal}
-use Rattle.tables.specs.Table.{table_asked}
+use Rattle.tables.specs.Table.{table_asked, table_refusal}
 use Rattle.model.specs.declared.group_set.GroupSet.{GroupSet}
 use Rattle.sheet.specs.declared.fault.SheetFault.{SheetFault}
-use Rattle.sheet.specs.declared.fault.SheetFault.TheVariants.{Count, BadRow, Memory}
 use Rattle.sheet.specs.Rows.{parse_row}
 
 -- 8: whole rows of six bytes, at most 128? 9, of each row in turn: is it as laid out?
@@ -14,6 +13,4 @@ sheet_asked lo hi channels bytes = table_asked 8 9 6 128 (parse_row lo hi channe
 
 -- what each fault refuses with; want of memory is no answer to a question
 abbrev pub sheet_refusal : SheetFault → Option Refusal
-sheet_refusal Count = Some (refuse 8)
-sheet_refusal (BadRow k) = Some (refuse_at 9 k)
-sheet_refusal Memory = None
+sheet_refusal f = table_refusal 8 9 f.0

@@ -1,5 +1,5 @@
--- Loops over the rows of a sheet, and what the steps keep. The element of a turn is `get_or rows k d`, as code reads it.
--- Assumes nothing.
+-- Walks over the rows of a sheet, one row after the other, and what the steps keep. The row of a turn is `get_or rows k d`, as
+-- code reads it. Assumes nothing.
 use Rattle.std.specs.Prelude.{◌≡◌, ℕ, ◌+◌, ◌-◌, ◌<◌, ◌≤◌, Bool, false, cond, List, [], ◌∷◌, ◌++◌, map, length, get_or, take, drop, ℤ, Some, Option, ◌==◌, ◌≢◌, slice_index_or, refl}
 use Rattle.std.proofs.Common.{ap, ◌∙◌, arith}
 use Rattle.std.specs.List.{slice_get}

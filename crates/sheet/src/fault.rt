@@ -1,9 +1,36 @@
-/// Why a sheet is not loaded.
+ghost use Rattle.std.specs.Prelude.{◌≡◌};
+ghost use Rattle.sheet.specs.Loading.{sheet_refusal};
+
+use questions::Refusal;
+use std::error::Error;
+use std::fmt;
+use tables::TableFault;
+
+/// Why a sheet is not loaded: its rows are no table of at most 128 rows as laid out, or there is no memory for them.
 #[derive(Clone, Copy, PartialEq, Eq, Debug)]
-pub enum SheetFault {
-    /// The bytes are no whole rows, or there are more than 128.
-    Count,
-    /// This row is not as laid out.
-    BadRow { number: usize },
-    Memory,
+pub struct SheetFault(pub TableFault);
+
+impl SheetFault {
+    /// The refusal with question 8 or 9, or none for want of memory.
+    pub fn refusal(&self) -> Option<Refusal>
+        ensures { result ≡ sheet_refusal self.now }
+    {
+        self.0.refusal(8, 9)
+    }
 }
+
+impl From<TableFault> for SheetFault {
+    ghost from_gives = { λ e r. r ≡ record { 0 = e } };
+
+    fn from(e: TableFault) -> SheetFault {
+        SheetFault(e)
+    }
+}
+
+impl fmt::Display for SheetFault {
+    fn fmt<W: fmt::Write>(&self, f: &mut fmt::Formatter<W>) -> fmt::Result {
+        write!(f, "{}", self.0)
+    }
+}
+
+impl Error for SheetFault {}

@@ -1,11 +1,12 @@
 ghost use Rattle.std.specs.Prelude.{◌≡◌};
+ghost use Rattle.std.proofs.Common.{rules};
 ghost use Rattle.sheet.specs.Rows.{carried, kind_of, parse_row};
 
 use crate::row::{Kind, Row};
 use model::group_set::GroupSet;
 use model::range::Range;
 use model::value::{Value, value_of};
-use tables::{BadRecord, Layout};
+use tables::Layout;
 
 /// How a sheet's rows are laid out, over its range and its channel set.
 #[derive(Clone, Copy)]
@@ -49,37 +50,27 @@ impl RowLayout {
     }
 }
 
-/// A sheet has at most so many rows.
-const MOST: usize = 128;
-
-/// The bytes of a row: from, kind, set, value, to, other.
-const WIDTH: usize = 6;
-
 impl Layout<Row> for RowLayout {
-    ghost width = { λ _. 6 };
+    /// The bytes of a row: from, kind, set, value, to, other.
+    const WIDTH: usize = 6;
 
-    ghost most = { λ _. 128 };
+    const MOST: usize = 128;
+
+    ghost WIDTH = { 6 };
+
+    ghost MOST = { 128 };
 
     ghost parse = { λ x. parse_row x.range.lo x.range.hi x.channels };
 
-    fn width(&self) -> usize {
-        WIDTH
-    }
+    ghost some = { Prim.search rules };
 
-    fn most(&self) -> usize {
-        MOST
-    }
-
-    fn read(&self, bytes: &[u8], number: usize) -> Result<Row, BadRecord> {
+    fn read(&self, bytes: &[u8]) -> Option<Row> {
         let [from, code, set, value, to, other] = bytes else {
-            return Err(BadRecord { number });
+            return None;
         };
-        let kind = self
-            .kind(*code, *set, *value, *to, *other)
-            .ok_or(BadRecord { number })?;
-        Ok(Row {
+        Some(Row {
             from: *from,
-            kind,
+            kind: self.kind(*code, *set, *value, *to, *other)?,
             to: *to,
         })
     }

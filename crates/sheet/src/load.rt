@@ -1,6 +1,5 @@
 ghost use Rattle.std.specs.Prelude.{◌≡◌, IfOk};
 ghost use Rattle.questions.specs.Asking.{first_no, refusal_of};
-ghost use Rattle.tables.specs.Table.{table_refusal};
 ghost use Rattle.sheet.specs.Loading.{sheet_asked, sheet_refusal};
 ghost use Rattle.sheet.specs.Meaning.{sheet_meaning, bytes_meaning};
 
@@ -9,40 +8,7 @@ use crate::layout::RowLayout;
 use crate::sheet::Sheet;
 use model::group_set::GroupSet;
 use model::range::Range;
-use questions::{Refusal, Side};
 use std::alloc::Global;
-use tables::TableFault;
-
-impl From<TableFault> for SheetFault {
-    ghost from_gives = { λ e r. sheet_refusal r ≡ table_refusal 8 9 e };
-
-    fn from(e: TableFault) -> SheetFault {
-        match e {
-            TableFault::Count => SheetFault::Count,
-            TableFault::Record { number } => SheetFault::BadRow { number },
-            TableFault::Memory => SheetFault::Memory,
-        }
-    }
-}
-
-impl SheetFault {
-    /// The refusal with question 8 or 9, or none for want of memory.
-    pub fn refusal(&self) -> Option<Refusal>
-        ensures { result ≡ sheet_refusal self.now }
-    {
-        let (question, item) = match *self {
-            SheetFault::Count => (8, 0),
-            SheetFault::BadRow { number } => (9, number),
-            SheetFault::Memory => return None,
-        };
-        Some(Refusal {
-            question,
-            side: Side::Left,
-            item,
-            step: 0,
-        })
-    }
-}
 
 impl Sheet {
     /// The sheet with the rows in `bytes`, or a refusal with question 8 or 9.

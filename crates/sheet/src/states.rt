@@ -17,12 +17,7 @@ pub fn state_at(number: u8) -> State
 fn are_zeros(bytes: &[u8]) -> bool
     ensures { result ≡ zeros bytes.now }
 {
-    for byte in bytes {
-        if *byte != 0 {
-            return false;
-        }
-    }
-    true
+    bytes.iter().all(|byte| *byte == 0)
 }
 
 /// Whether the state is one that a number stands for.

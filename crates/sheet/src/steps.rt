@@ -49,14 +49,9 @@ impl Row {
     fn listed(&self, range: &Range, value: Value) -> Listed
         ensures { result ≡ listed_row range.now.lo range.now.hi value self.now }
     {
-        let landing = if range.holds(value) {
-            Some(self.landing(value))
-        } else {
-            None
-        };
         Listed {
             label: self.label(),
-            landing,
+            landing: range.holds(value).then(|| self.landing(value)),
         }
     }
 }
@@ -65,29 +60,17 @@ impl Row {
 fn count_from(rows: &[Row], number: u8) -> u64
     ensures { result ≡ length (rows_from number rows.now) }
 {
-    let mut count = 0;
-    for row in rows {
-        if row.from == number {
-            count += 1;
-        }
-    }
-    count
+    rows.iter().filter(|row| row.from == number).count() as u64
 }
 
 /// The row with the number `step` among those from the state with the number.
 fn row_from(rows: &[Row], number: u8, step: u64) -> Option<Row>
     ensures { result ≡ slice_get (rows_from number rows.now) step }
 {
-    let mut left = step;
-    for row in rows {
-        if row.from == number {
-            if left == 0 {
-                return Some(*row);
-            }
-            left -= 1;
-        }
-    }
-    None
+    rows.iter()
+        .filter(|row| row.from == number)
+        .nth(step as usize)
+        .copied()
 }
 
 /// The rows from the state with the number, as a sheet of the range lists them at the value.
@@ -100,13 +83,10 @@ fn list_from(
 ) -> Result<Vec<Listed>, AllocError>
     ensures { IfOk result (λ v. v.items ≡ map (listed_row range.now.lo range.now.hi value) (rows_from number rows.now)) }
 {
-    let mut steps = Vec::new(heap);
-    for row in rows {
-        if row.from == number {
-            steps.push(row.listed(range, value))?;
-        }
-    }
-    Ok(steps)
+    rows.iter()
+        .filter(|row| row.from == number)
+        .map(|row| row.listed(range, value))
+        .collect(heap)
 }
 
 impl Sheet {

@@ -9,6 +9,7 @@ use model::value::Value;
 use std::alloc::Global;
 use std::test::Fail;
 use systems::System;
+use tables::TableFault;
 
 const CHANNELS: GroupSet = GroupSet { bits: 1 };
 
@@ -117,7 +118,7 @@ fn rows_as_laid_out(rt: HostRuntime) -> Result<(), Fail> {
     for row in &NOT_LAID_OUT {
         assert_eq!(rt;
             fault(rt.alloc(), row)?,
-            Some(SheetFault::BadRow { number: 0 })
+            Some(SheetFault(TableFault::Record { number: 0 }))
         );
     }
     Ok(())
@@ -127,13 +128,19 @@ fn rows_as_laid_out(rt: HostRuntime) -> Result<(), Fail> {
 fn rows_counted(rt: HostRuntime) -> Result<(), Fail> {
     assert_eq!(rt; fault(rt.alloc(), &[])?, None);
     assert_eq!(rt; fault(rt.alloc(), &[0; 768])?, None);
-    assert_eq!(rt; fault(rt.alloc(), &[0; 774])?, Some(SheetFault::Count));
-    assert_eq!(rt; fault(rt.alloc(), &[0; 5])?, Some(SheetFault::Count));
+    assert_eq!(rt;
+        fault(rt.alloc(), &[0; 774])?,
+        Some(SheetFault(TableFault::Count))
+    );
+    assert_eq!(rt;
+        fault(rt.alloc(), &[0; 5])?,
+        Some(SheetFault(TableFault::Count))
+    );
     let mut rows = [0; 12];
     rows[7] = 9;
     assert_eq!(rt;
         fault(rt.alloc(), &rows)?,
-        Some(SheetFault::BadRow { number: 1 })
+        Some(SheetFault(TableFault::Record { number: 1 }))
     );
     Ok(())
 }

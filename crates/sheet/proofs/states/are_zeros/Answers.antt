@@ -1,11 +1,10 @@
-use Rattle.sheet.proofs.Bytes.{zeros_more, zeros_fail, zeros_all}
+use Rattle.std.proofs.Common.{eqb, ◌∙◌, rules}
+use borrow.Author.Tests.{tests}
+use Rattle.std.proofs.lemmas.Iterator.{YieldsList-from_slice}
+use Rattle.std.proofs.lemmas.Iterator.Search.{all_from_yields_List}
+use Rattle.lists.proofs.Every.{all_every}
 use Rattle.sheet.proofs.states.are_zeros.Goals as goal
 
-pub returns-then-byte-ne0 : goal.returns-then-byte-ne0
-returns-then-byte-ne0 c = zeros_fail c.args.bytes.now c.loop-byte.byte-index _ c.loop-byte.invariant c.loop-byte-test.true c.if-byte-ne0.true
-
-pub loop-byte-preserved : goal.loop-byte-preserved
-loop-byte-preserved c = zeros_more c.args.bytes.now c.loop-byte.byte-index _ c.loop-byte.invariant c.loop-byte-test.true c.if-byte-ne0.false
-
 pub returns : goal.returns
-returns c = zeros_all c.args.bytes.now c.loop-byte.byte-index _ c.loop-byte.invariant c.loop-byte-test.false
+returns c =
+    all_from_yields_List (λ b. eqb b 0) _ _ _ c.all.ensures.ran (YieldsList-from_slice c.args.bytes.now cc) (λ x b q k. search (rules, tests)) ∙ all_every _ c.args.bytes.now
