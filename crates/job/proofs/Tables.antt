@@ -17,22 +17,7 @@ use Rattle.frames.specs.declared.kind.Kind.TheVariants.{Row, Link}
 use Rattle.frames.specs.declared.setting.Setting.{Setting}
 use Rattle.job.specs.Sides.{tables_asked, ruled_meaning, side_meaning, Holds}
 use Rattle.job.specs.declared.sides.Checked.{Checked}
-use Rattle.tables.specs.Table.{table_refusal}
-use Rattle.tables.specs.declared.TableFault.{TableFault}
-use Rattle.tables.specs.declared.TableFault.TheVariants.{Count, Record, Memory}
-use Rattle.rules.specs.Faults.{rule_fault_of, rule_refusal}
-use Rattle.network.specs.Loads.{network_asked, network_fault_of, network_refusal, net_in}
-
--- the faults of a table as those of links and of a network
-pub rule_refusal_lem : (f : TableFault) → rule_refusal (rule_fault_of f) ≡ table_refusal 2 3 f
-rule_refusal_lem Count = refl
-rule_refusal_lem (Record k) = refl
-rule_refusal_lem Memory = refl
-
-pub network_refusal_lem : (f : TableFault) → network_refusal (network_fault_of f) ≡ table_refusal 6 7 f
-network_refusal_lem Count = refl
-network_refusal_lem (Record k) = refl
-network_refusal_lem Memory = refl
+use Rattle.network.specs.Loads.{network_asked, net_in}
 
 -- the questions to a setting and the bytes of links and rows, one after the other
 module _ (s : Setting) (links rows : List ℕ) (o : Option Refusal) where

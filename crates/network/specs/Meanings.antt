@@ -8,7 +8,7 @@ use Rattle.model.specs.declared.group_set.GroupSet.{GroupSet}
 use Rattle.model.specs.declared.state.State.{State}
 use Rattle.model.specs.declared.unit_state.UnitState.{UnitState}
 use Rattle.systems.specs.Meaning.{Meaning}
-use Rattle.rows.specs.Units.{equal_z}
+use Rattle.model.specs.Alike.{same_value}
 use Rattle.ways.specs.declared.way.Way.{Way}
 use Rattle.ways.specs.declared.way.Way.TheVariants.{Move}
 use Rattle.ways.specs.Nets.{Net, unit_at, free_part}
@@ -39,7 +39,7 @@ abbrev pub unit_in_range : Net → UnitState → Bool
 unit_in_range n x = nat_le x.location 63 && (in_range n.lo n.hi x.first && in_range n.lo n.hi x.second)
 
 abbrev pub zero_bytes : UnitState → Bool
-zero_bytes x = x.location == 0 && (equal_z x.first (pos 0) && (equal_z x.second (pos 0) && x.groups.bits == 0))
+zero_bytes x = x.location == 0 && (same_value x.first (pos 0) && (same_value x.second (pos 0) && x.groups.bits == 0))
 
 abbrev pub slot_lawful : Net → State → ℕ → Bool
 slot_lawful n s j = cond (nat_lt j n.units) (unit_in_range n (unit_at s j)) (zero_bytes (unit_at s j))

@@ -2,7 +2,7 @@ ghost use Rattle.std.specs.Prelude.{◌≡◌};
 ghost use Rattle.network.specs.Loads.{network_refusal};
 ghost use Rattle.network.specs.declared.fault.NetworkFault.TheVariants.{Rows};
 
-use questions::{Refusal, Side};
+use questions::Refusal;
 use std::error::Error;
 use std::fmt;
 use tables::TableFault;
@@ -22,12 +22,7 @@ impl NetworkFault {
         ensures { result ≡ network_refusal self.now }
     {
         match self {
-            NetworkFault::Units => Some(Refusal {
-                question: 5,
-                side: Side::Left,
-                item: 0,
-                step: 0,
-            }),
+            NetworkFault::Units => Some(Refusal::of(5, 0)),
             NetworkFault::Rows(fault) => fault.refusal(6, 7),
         }
     }

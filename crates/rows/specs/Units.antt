@@ -1,5 +1,6 @@
 -- When a row is enabled for a unit, and what taking it does to the unit.
 use Rattle.std.specs.Prelude.{Bool, true, false, not, ◌&&◌, ℤ, ◌==◌, int_lt}
+use Rattle.model.specs.Alike.{same_value}
 use Rattle.model.specs.declared.unit_state.UnitState.{UnitState}
 use Rattle.rows.specs.declared.row.Operand.{Operand}
 use Rattle.rows.specs.declared.row.Operand.TheVariants.{First, Second, Constant}
@@ -16,14 +17,10 @@ reads u First = u.first
 reads u Second = u.second
 reads u (Constant v) = v
 
--- two values are equal: neither is less
-abbrev pub equal_z : ℤ → ℤ → Bool
-equal_z a b = not (int_lt a b) && not (int_lt b a)
-
 abbrev pub holds : UnitState → Guard → Bool
 holds u None = true
-holds u (Equal a b) = equal_z (reads u a) (reads u b)
-holds u (Differs a b) = not (equal_z (reads u a) (reads u b))
+holds u (Equal a b) = same_value (reads u a) (reads u b)
+holds u (Differs a b) = not (same_value (reads u a) (reads u b))
 holds u (Less a b) = int_lt (reads u a) (reads u b)
 
 -- the unit is at the row's from location, and the guard holds of its registers as they are

@@ -2,7 +2,7 @@ ghost use Rattle.std.specs.Prelude.{◌≡◌};
 ghost use Rattle.rules.specs.Faults.{rule_refusal};
 ghost use Rattle.rules.specs.declared.fault.RuleFault.TheVariants.{Table};
 
-use questions::{Refusal, Side};
+use questions::Refusal;
 use std::error::Error;
 use std::fmt;
 use tables::TableFault;
@@ -23,12 +23,7 @@ impl RuleFault {
     {
         match self {
             RuleFault::Table(fault) => fault.refusal(2, 3),
-            RuleFault::Limit => Some(Refusal {
-                question: 4,
-                side: Side::Left,
-                item: 0,
-                step: 0,
-            }),
+            RuleFault::Limit => Some(Refusal::of(4, 0)),
         }
     }
 }

@@ -6,7 +6,6 @@ ghost use Rattle.rules.specs.Parkings.{recorded, parks, parking_allows, parking_
 use crate::fault::RuleFault;
 use crate::place::{Place, PlaceLayout};
 use crate::rule::Rule;
-use lookup::first_equal;
 use model::group_set::GroupSet;
 use model::placement::Placement;
 use std::alloc::Global;
@@ -33,7 +32,7 @@ impl Parking {
     fn records(&self, unit: usize, set: GroupSet) -> bool
         ensures { result ≡ recorded self.now.places.items unit set }
     {
-        first_equal(&self.places, &Place { unit, set }).is_some()
+        self.places.contains(&Place { unit, set })
     }
 }
 

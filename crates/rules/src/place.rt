@@ -1,5 +1,4 @@
 ghost use Rattle.std.specs.Prelude.{◌≡◌};
-ghost use Rattle.std.proofs.Common.{rules};
 ghost use Rattle.rules.specs.Places.{place_of};
 ghost use Rattle.std.proofs.Common.{rules};
 

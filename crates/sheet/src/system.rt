@@ -29,7 +29,7 @@ impl System for Sheet {
         if is_lawful(state) {
             self.channels
         } else {
-            GroupSet { bits: 0 }
+            GroupSet::default()
         }
     }
 

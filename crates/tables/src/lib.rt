@@ -6,7 +6,7 @@ ghost use Rattle.questions.specs.Certain.{Certain};
 ghost use Rattle.tables.specs.Table.{Answers, table_refusal};
 ghost use Rattle.tables.specs.declared.TableFault.TheVariants.{Memory};
 
-use questions::{Refusal, Side};
+use questions::Refusal;
 use std::alloc::{AllocError, Global};
 use std::error::Error;
 use std::fmt;
@@ -26,17 +26,11 @@ impl TableFault {
     pub fn refusal(&self, whole: u8, each: u8) -> Option<Refusal>
         ensures { result ≡ table_refusal whole each self.now }
     {
-        let (question, item) = match *self {
-            TableFault::Count => (whole, 0),
-            TableFault::Record { number } => (each, number),
-            TableFault::Memory => return None,
-        };
-        Some(Refusal {
-            question,
-            side: Side::Left,
-            item,
-            step: 0,
-        })
+        match *self {
+            TableFault::Count => Some(Refusal::of(whole, 0)),
+            TableFault::Record { number } => Some(Refusal::of(each, number)),
+            TableFault::Memory => None,
+        }
     }
 }
 
