@@ -1,5 +1,5 @@
 -- The questions to the tables of a side, and what its records mean. Assumes nothing.
-use Rattle.std.proofs.Common.{◌≡◌, ℕ, Bool, true, ◌&&◌, List, ◌++◌, ℤ, is_some, None, Option, sym, refl, ap, ◌∙◌}
+use Rattle.std.proofs.Common.{◌≡◌, ℕ, Bool, true, ◌&&◌, List, ◌++◌, ℤ, is_some, None, Option, sym, ap, ◌∙◌}
 use Rattle.questions.specs.Asking.{first_no}
 use Rattle.questions.specs.declared.Refusal.{Refusal}
 use Rattle.questions.specs.declared.Side.{Side}

@@ -85,13 +85,13 @@ impl Layout<Row> for RowLayout {
             g,
             second,
             h,
-            0,
-            0,
+            blank,
+            last,
         ] = bytes
         else {
             return None;
         };
-        if *from > 63 || *to > 63 {
+        if *from > 63 || *to > 63 || *blank != 0 || *last != 0 {
             return None;
         }
         Some(Row {
