@@ -21,7 +21,7 @@ impl RowLayout {
         ensures { result ≡ carried self.now.range.lo self.now.range.hi self.now.channels groups value }
     {
         !groups.is_empty()
-            && groups.part_within(self.channels).bits == groups.bits
+            && groups.part_within(self.channels) == groups
             && self.range.holds(value)
     }
 

@@ -1,7 +1,6 @@
 use crate::judge_part::show_verdict;
 use crate::sheets_part::worked_sheet;
 use crate::steps_part::show_steps;
-use anyhow::anyhow;
 use model::group_set::GroupSet;
 use model::range::Range;
 use model::state::{Pair, State};
@@ -19,46 +18,32 @@ const ROWS: [u8; 32] = [
 // From 0 broadcast -2 on {0} and go to 1.
 const BROADCAST: [u8; 6] = [0, 2, 1, 0xFE, 1, 1];
 
-const ZERO: UnitState = UnitState {
-    location: 0,
-    first: 0,
-    second: 0,
-    groups: GroupSet { bits: 0 },
-};
-
 /// The network of these rows over the range -2 to 2, with the free group 0.
 fn worked_network(rt: &HostRuntime, units: usize, limit: u8) -> anyhow::Result<Network<Tuner>> {
-    let Ok(range) = Range::new(-2, 2) else {
-        return Err(anyhow!("the range was refused"));
-    };
-    let Ok(tuner) = Tuner::new(limit) else {
-        return Err(anyhow!("the tuner was refused"));
-    };
-    match Network::load(rt.alloc(), range, GroupSet { bits: 1 }, units, &ROWS, tuner) {
-        Ok(network) => Ok(network),
-        Err(_) => Err(anyhow!("the network was refused")),
-    }
+    let range = Range::new(-2, 2)?;
+    let tuner = Tuner::new(limit)?;
+    Ok(Network::load(rt.alloc(), range, GroupSet { bits: 1 }, units, &ROWS, tuner)?)
 }
 
 /// A unit at a location, on a set, with zero registers.
 fn unit_at(location: u8, set: u8) -> UnitState {
     UnitState {
         location,
-        first: 0,
-        second: 0,
         groups: GroupSet { bits: set },
+        ..UnitState::default()
     }
 }
 
+/// The state of one unit.
 fn one(unit: UnitState) -> State {
-    State {
-        units: [unit, ZERO, ZERO, ZERO, ZERO, ZERO],
-    }
+    two(unit, UnitState::default())
 }
 
+/// The state of two units.
 fn two(first: UnitState, second: UnitState) -> State {
+    let none = UnitState::default();
     State {
-        units: [first, second, ZERO, ZERO, ZERO, ZERO],
+        units: [first, second, none, none, none, none],
     }
 }
 

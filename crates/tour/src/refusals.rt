@@ -31,52 +31,53 @@ fn show(rt: &HostRuntime, what: &str, refusal: Option<Refusal>) -> anyhow::Resul
 }
 
 fn refusal_of<T: Drop>(made: Result<T, RuleFault>) -> Option<Refusal> {
-    match made {
-        Ok(_) => None,
-        Err(fault) => fault.refusal(),
-    }
+    made.err().and_then(|fault| fault.refusal())
 }
 
-fn show_parking(rt: &HostRuntime, what: &str, bytes: &[u8]) -> anyhow::Result<()> {
-    show(rt, what, refusal_of(Parking::load(rt.alloc(), bytes)))
+fn refusal_of_range(lo: i8, hi: i8) -> Option<Refusal> {
+    Range::new(lo, hi).err().map(|fault| fault.refusal())
 }
 
-fn show_links(rt: &HostRuntime, what: &str, bytes: &[u8]) -> anyhow::Result<()> {
-    show(rt, what, refusal_of(Links::load(rt.alloc(), bytes)))
+fn refusal_of_placement(units: usize) -> Option<Refusal> {
+    Placement::new(units, [GroupSet::default(); 6])
+        .err()
+        .map(|fault| fault.refusal())
 }
 
-fn show_range(rt: &HostRuntime, what: &str, lo: i8, hi: i8) -> anyhow::Result<()> {
-    match Range::new(lo, hi) {
-        Ok(_) => show(rt, what, None),
-        Err(fault) => show(rt, what, Some(fault.refusal())),
-    }
+fn refusal_of_parking(rt: &HostRuntime, bytes: &[u8]) -> Option<Refusal> {
+    refusal_of(Parking::load(rt.alloc(), bytes))
 }
 
-fn show_placement(rt: &HostRuntime, what: &str, units: usize) -> anyhow::Result<()> {
-    match Placement::new(units, [GroupSet { bits: 0 }; 6]) {
-        Ok(_) => show(rt, what, None),
-        Err(fault) => show(rt, what, Some(fault.refusal())),
-    }
+fn refusal_of_links(rt: &HostRuntime, bytes: &[u8]) -> Option<Refusal> {
+    refusal_of(Links::load(rt.alloc(), bytes))
 }
 
 pub fn show_refusals(rt: &HostRuntime) -> anyhow::Result<()> {
-    show_range(rt, "range from -2 to 2", -2, 2)?;
-    show_range(rt, "range from 2 to -2", 2, -2)?;
-    show_placement(rt, "placement of 6 units", 6)?;
-    show_placement(rt, "placement of 7 units", 7)?;
-    show_placement(rt, "placement of 0 units", 0)?;
-    show_parking(rt, "parking, no record", &[])?;
-    show_parking(rt, "parking, 48 records", &[0; 96])?;
-    show_parking(rt, "parking, 49 records", &[0; 98])?;
-    show_parking(rt, "parking, 3 bytes", &[0, 1, 0])?;
-    show_parking(rt, "parking, unit 6 in record 1", &[0, 1, 6, 1])?;
-    show_links(rt, "links, 16 records", &[1; 48])?;
-    show_links(rt, "links, 17 records", &[1; 51])?;
-    show_links(rt, "links, kind 3 in record 0", &[3, 0, 1])?;
-    show_links(
+    show(rt, "range from -2 to 2", refusal_of_range(-2, 2))?;
+    show(rt, "range from 2 to -2", refusal_of_range(2, -2))?;
+    show(rt, "placement of 6 units", refusal_of_placement(6))?;
+    show(rt, "placement of 7 units", refusal_of_placement(7))?;
+    show(rt, "placement of 0 units", refusal_of_placement(0))?;
+    show(rt, "parking, no record", refusal_of_parking(rt, &[]))?;
+    show(rt, "parking, 48 records", refusal_of_parking(rt, &[0; 96]))?;
+    show(rt, "parking, 49 records", refusal_of_parking(rt, &[0; 98]))?;
+    show(rt, "parking, 3 bytes", refusal_of_parking(rt, &[0, 1, 0]))?;
+    show(
+        rt,
+        "parking, unit 6 in record 1",
+        refusal_of_parking(rt, &[0, 1, 6, 1]),
+    )?;
+    show(rt, "links, 16 records", refusal_of_links(rt, &[1; 48]))?;
+    show(rt, "links, 17 records", refusal_of_links(rt, &[1; 51]))?;
+    show(
+        rt,
+        "links, kind 3 in record 0",
+        refusal_of_links(rt, &[3, 0, 1]),
+    )?;
+    show(
         rt,
         "links, unit 6 in record 2",
-        &[1, 0, 1, 2, 0, 2, 1, 0, 6],
+        refusal_of_links(rt, &[1, 0, 1, 2, 0, 2, 1, 0, 6]),
     )?;
     show(rt, "tuner with limit 8", refusal_of(Tuner::new(8)))?;
     show(rt, "tuner with limit 9", refusal_of(Tuner::new(9)))

@@ -1,4 +1,3 @@
-use anyhow::anyhow;
 use model::group_set::GroupSet;
 use model::placement::Placement;
 use rules::both::Both;
@@ -36,18 +35,9 @@ fn answer(allowed: bool) -> &'static str {
 }
 
 fn placement_of(row: &[u8; 7]) -> anyhow::Result<Placement> {
-    let slots = [
-        GroupSet { bits: row[1] },
-        GroupSet { bits: row[2] },
-        GroupSet { bits: row[3] },
-        GroupSet { bits: row[4] },
-        GroupSet { bits: row[5] },
-        GroupSet { bits: row[6] },
-    ];
-    match Placement::new(usize::from(row[0]), slots) {
-        Ok(placement) => Ok(placement),
-        Err(_) => Err(anyhow!("no such placement")),
-    }
+    let [units, a, b, c, d, e, f] = *row;
+    let slots = [a, b, c, d, e, f].map(|bits| GroupSet { bits });
+    Ok(Placement::new(usize::from(units), slots)?)
 }
 
 fn show_sets(rt: &HostRuntime, placement: &Placement) -> anyhow::Result<()> {
@@ -67,24 +57,13 @@ struct Asked {
 }
 
 fn rules_asked(rt: &HostRuntime) -> anyhow::Result<Asked> {
-    let Ok(parking) = Parking::load(rt.alloc(), &PLACES) else {
-        return Err(anyhow!("parking was refused"));
-    };
-    let Ok(links) = Links::load(rt.alloc(), &JOINED_AND_APART) else {
-        return Err(anyhow!("links were refused"));
-    };
-    let Ok(joined) = Links::load(rt.alloc(), &JOINED) else {
-        return Err(anyhow!("links were refused"));
-    };
-    let Ok(tuner) = Tuner::new(2) else {
-        return Err(anyhow!("the tuner was refused"));
-    };
+    let tuner = Tuner::new(2)?;
     Ok(Asked {
-        parking,
-        links,
+        parking: Parking::load(rt.alloc(), &PLACES)?,
+        links: Links::load(rt.alloc(), &JOINED_AND_APART)?,
         tuner,
         both: Both {
-            one: joined,
+            one: Links::load(rt.alloc(), &JOINED)?,
             other: tuner,
         },
     })

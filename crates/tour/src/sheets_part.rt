@@ -1,5 +1,4 @@
 use crate::steps_part::show_steps;
-use anyhow::anyhow;
 use model::group_set::GroupSet;
 use model::range::Range;
 use sheet::sheet::Sheet;
@@ -16,13 +15,8 @@ pub const THREE_ROWS: [u8; 18] = [0, 3, 1, 0, 1, 1, 0, 3, 1, 0, 2, 2, 1, 2, 1, 0
 
 /// The sheet of these rows, over the range -2 to 2 and the channel set {0}.
 pub fn worked_sheet(rt: &HostRuntime, rows: &[u8]) -> anyhow::Result<Sheet> {
-    let Ok(range) = Range::new(-2, 2) else {
-        return Err(anyhow!("the range was refused"));
-    };
-    match Sheet::load(rt.alloc(), range, GroupSet { bits: 1 }, rows) {
-        Ok(sheet) => Ok(sheet),
-        Err(_) => Err(anyhow!("the sheet was refused")),
-    }
+    let range = Range::new(-2, 2)?;
+    Ok(Sheet::load(rt.alloc(), range, GroupSet { bits: 1 }, rows)?)
 }
 
 pub fn show_sheets(rt: &HostRuntime) -> anyhow::Result<()> {

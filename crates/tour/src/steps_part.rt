@@ -1,5 +1,5 @@
 // The steps of a state in words, for every kind of system.
-use anyhow::anyhow;
+use anyhow::Context;
 use model::label::Label;
 use model::state::State;
 use model::value::Value;
@@ -21,10 +21,10 @@ fn show_landing<S: System>(
     value: Value,
     units: usize,
 ) -> anyhow::Result<()> {
-    match system.landing(state, step, value) {
-        Some(landing) => show_state(rt, &landing, units),
-        None => Err(anyhow!("a step does not land")),
-    }
+    let landing = system
+        .landing(state, step, value)
+        .context("a step does not land")?;
+    show_state(rt, &landing, units)
 }
 
 fn show_step<S: System>(
@@ -34,9 +34,7 @@ fn show_step<S: System>(
     step: u64,
     units: usize,
 ) -> anyhow::Result<()> {
-    let Some(label) = system.label(state, step) else {
-        return Err(anyhow!("a step has no label"));
-    };
+    let label = system.label(state, step).context("a step has no label")?;
     let range = system.range();
     match label {
         Label::Receive { groups: _ } => {
