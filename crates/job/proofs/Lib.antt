@@ -1,5 +1,4 @@
 pub mod Tables
-pub mod OnSide
 pub mod Layouts
 pub mod Judging
 pub mod Numbers

@@ -1,5 +1,5 @@
 -- What the faults of a job refuse with.
-use Rattle.std.specs.Prelude.{Some, None, Ok, Err, Option, Result}
+use Rattle.std.specs.Prelude.{Some, None, Option}
 use Rattle.lists.specs.Words.{through}
 use Rattle.questions.specs.declared.Refusal.{Refusal}
 use Rattle.questions.specs.declared.Side.{Side}
@@ -28,8 +28,3 @@ job_refusal (BadFrame f) = Some (frame_refusal f)
 job_refusal (BadSide side f) = through (on_side side) (side_refusal f)
 job_refusal (NotAlike f) = judge_refusal f
 job_refusal Memory = None
-
--- the answer of a side as the job's
-abbrev pub fault_on : {X : Type 0} → Side → Result X SideFault → Result X JobFault
-fault_on side (Ok x) = Ok x
-fault_on side (Err f) = Err (BadSide side f)

@@ -19,7 +19,7 @@ use Rattle.frames.specs.Payloads.{side_bytes, setting_of}
 use Rattle.frames.specs.declared.kind.Kind.TheVariants.{Row, Link}
 use Rattle.frames.specs.declared.setting.Setting.{Setting}
 use Rattle.job.specs.Faults.{on_side}
-use Rattle.job.specs.declared.sides.Checked.{Checked}
+use Rattle.job.specs.declared.held.Held.{Held}
 
 -- the range, the rule (links, then tuner) and the network of a setting and the bytes of links and rows: 1; 2, 3, 4; 5, 6, 7
 abbrev pub tables_asked : Setting → List ℕ → List ℕ → List (Question Refusal)
@@ -51,7 +51,7 @@ abbrev pub loaded_meaning : Network (Both Links Tuner) → Meaning
 loaded_meaning n = ruled_meaning (net_of n.table) n.rule
 
 -- the values of a side's setting, once they are held to their questions
-pub record Holds (t : Setting) (x : Checked) : Type 0 where
+pub record Holds (t : Setting) (x : Held) : Type 0 where
   pub lo : x.range.lo ≡ t.lo
   pub hi : x.range.hi ≡ t.hi
   pub limit : x.tuner.limit ≡ t.limit

@@ -10,69 +10,78 @@ ghost use Rattle.frames.specs.declared.kind.Kind.TheVariants.{Row as Rows, Link 
 ghost use Rattle.job.specs.Faults.{side_refusal, job_refusal};
 ghost use Rattle.job.specs.Sides.{tables_asked, side_asked, Holds};
 
-use crate::fault::{JobFault, SideFault, on_side};
-use crate::sides::Checked;
+use crate::fault::{JobFault, SideFault};
+use crate::held::Held;
+use crate::sides::{Checked, Records};
 use frames::gather::{payloads, setting};
 use frames::kind::Kind;
-use frames::setting::Setting;
 use model::range::Range;
 use model::unit_state::UNITS;
 use network::fault::NetworkFault;
-use questions::Side;
 use rows::layout::RowLayout;
 use rules::fault::RuleFault;
 use rules::link::LinkLayout;
 use rules::tuner::Tuner;
 use tables::{TableFault, check};
 
-/// Questions 2 and 3 to the links of a side.
-fn check_links(bytes: &[u8], side: Side) -> Result<(), RuleFault>
-    ensures certain { Certain rule_refusal result }
-    ensures refuses { refusal_of rule_refusal result ≡ first_no (links_asked (side_bytes Links side bytes.now)) }
-{
-    // more bytes than there is room for are more than 16 links
-    let links = payloads(bytes, Kind::Link, side).ok_or(TableFault::Count)?;
-    check(&LinkLayout, links.as_slice())?;
-    Ok(())
-}
-
-/// Questions 5, 6 and 7 to the units and rows of a side.
-fn check_network(bytes: &[u8], side: Side, range: Range, units: usize) -> Result<(), NetworkFault>
-    ensures certain { Certain network_refusal result }
-    ensures refuses { refusal_of network_refusal result ≡ first_no (network_asked range.lo range.hi units (side_bytes Rows side bytes.now)) }
-{
-    if units < 1 || UNITS < units {
-        return Err(NetworkFault::Units);
+impl<'a> Records<'a> {
+    /// Questions 2 and 3 to the links.
+    fn check_links(&self) -> Result<(), RuleFault>
+        ensures certain { Certain rule_refusal result }
+        ensures refuses { refusal_of rule_refusal result ≡ first_no (links_asked (side_bytes Links self.now.side self.now.bytes.now)) }
+    {
+        // more bytes than there is room for are more than 16 links
+        let links = payloads(self.bytes, Kind::Link, self.side).ok_or(TableFault::Count)?;
+        check(&LinkLayout, links.as_slice())?;
+        Ok(())
     }
-    // more bytes than there is room for are more than 64 rows
-    let rows = payloads(bytes, Kind::Row, side).ok_or(TableFault::Count)?;
-    check(&RowLayout { range }, rows.as_slice())?;
-    Ok(())
-}
 
-/// All questions to a setting and the records of its side.
-fn check_tables(setting: &Setting, bytes: &[u8], side: Side) -> Result<Checked, SideFault>
-    ensures certain { Certain side_refusal result }
-    ensures refuses { refusal_of side_refusal result ≡ first_no (tables_asked setting.now (side_bytes Links side bytes.now) (side_bytes Rows side bytes.now)) }
-    ensures checks { IfOk result (Holds setting.now) }
-{
-    let range = Range::new(setting.lo, setting.hi)?;
-    check_links(bytes, side)?;
-    let tuner = Tuner::new(setting.limit)?;
-    check_network(bytes, side, range, setting.units)?;
-    Ok(Checked {
-        range,
-        tuner,
-        free: setting.free,
-        units: setting.units,
-    })
-}
+    /// Questions 5, 6 and 7 to the units and rows.
+    fn check_network(&self, range: Range, units: usize) -> Result<(), NetworkFault>
+        ensures certain { Certain network_refusal result }
+        ensures refuses { refusal_of network_refusal result ≡ first_no (network_asked range.lo range.hi units (side_bytes Rows self.now.side self.now.bytes.now)) }
+    {
+        if units < 1 || UNITS < units {
+            return Err(NetworkFault::Units);
+        }
+        // more bytes than there is room for are more than 64 rows
+        let rows = payloads(self.bytes, Kind::Row, self.side).ok_or(TableFault::Count)?;
+        check(&RowLayout { range }, rows.as_slice())?;
+        Ok(())
+    }
 
-/// All questions to the records of a side.
-pub(crate) fn check_side(bytes: &[u8], side: Side) -> Result<Checked, JobFault>
-    ensures certain { Certain job_refusal result }
-    ensures refuses { refusal_of job_refusal result ≡ first_no (side_asked side bytes.now) }
-    ensures checks { IfOk result (Holds (setting_of side bytes.now)) }
-{
-    on_side(check_tables(&setting(bytes, side), bytes, side), side)
+    /// All questions to the setting and the records.
+    fn check_tables(&self) -> Result<Held, SideFault>
+        ensures certain { Certain side_refusal result }
+        ensures refuses { refusal_of side_refusal result ≡ first_no (tables_asked (setting_of self.now.side self.now.bytes.now) (side_bytes Links self.now.side self.now.bytes.now) (side_bytes Rows self.now.side self.now.bytes.now)) }
+        ensures checks { IfOk result (Holds (setting_of self.now.side self.now.bytes.now)) }
+    {
+        let setting = setting(self.bytes, self.side);
+        let range = Range::new(setting.lo, setting.hi)?;
+        self.check_links()?;
+        let tuner = Tuner::new(setting.limit)?;
+        self.check_network(range, setting.units)?;
+        Ok(Held {
+            range,
+            tuner,
+            free: setting.free,
+            units: setting.units,
+        })
+    }
+
+    /// All questions, each told with the side.
+    pub(crate) fn check(&self) -> Result<Checked<'a>, JobFault>
+        ensures certain { Certain job_refusal result }
+        ensures refuses { refusal_of job_refusal result ≡ first_no (side_asked self.now.side self.now.bytes.now) }
+        ensures checks { IfOk result (λ x. x.records ≡ self.now) }
+    {
+        let side = self.side;
+        let held = self
+            .check_tables()
+            .map_err(|fault| JobFault::BadSide { side, fault })?;
+        Ok(Checked {
+            records: *self,
+            held,
+        })
+    }
 }

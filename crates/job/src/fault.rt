@@ -1,6 +1,5 @@
 ghost use Rattle.std.specs.Prelude.{◌≡◌};
-ghost use Rattle.lists.specs.Words.{through};
-ghost use Rattle.job.specs.Faults.{on_side, side_refusal, job_refusal, fault_on};
+ghost use Rattle.job.specs.Faults.{side_refusal, job_refusal};
 ghost use Rattle.job.specs.declared.fault.SideFault.TheVariants.{BadRange, BadRule, BadNetwork};
 ghost use Rattle.job.specs.declared.fault.JobFault.TheVariants.{BadFrame, NotAlike, Memory};
 
@@ -11,9 +10,11 @@ use network::fault::NetworkFault;
 use questions::{Refusal, Side};
 use rules::fault::RuleFault;
 use std::alloc::AllocError;
+use std::error::Error;
+use std::fmt;
 
 /// Why a side's records are no network.
-#[derive(Clone, Copy, Debug)]
+#[derive(Clone, Copy, PartialEq, Eq, Debug)]
 pub enum SideFault {
     BadRange(Backward),
     BadRule(RuleFault),
@@ -57,8 +58,20 @@ impl SideFault {
     }
 }
 
+impl fmt::Display for SideFault {
+    fn fmt<W: fmt::Write>(&self, f: &mut fmt::Formatter<W>) -> fmt::Result {
+        match self {
+            SideFault::BadRange(fault) => write!(f, "{fault}"),
+            SideFault::BadRule(fault) => write!(f, "{fault}"),
+            SideFault::BadNetwork(fault) => write!(f, "{fault}"),
+        }
+    }
+}
+
+impl Error for SideFault {}
+
 /// Why a job is not accepted.
-#[derive(Clone, Copy, Debug)]
+#[derive(Clone, Copy, PartialEq, Eq, Debug)]
 pub enum JobFault {
     BadFrame(FrameFault),
     BadSide { side: Side, fault: SideFault },
@@ -97,29 +110,31 @@ impl JobFault {
     {
         match *self {
             JobFault::BadFrame(fault) => Some(fault.refusal()),
-            JobFault::BadSide { side, fault } => refusal_on(side, fault.refusal()),
+            JobFault::BadSide { side, fault } => fault
+                .refusal()
+                .map(|refusal| Refusal { side, ..refusal }),
             JobFault::NotAlike(fault) => Some(fault.refusal()),
             JobFault::Memory => None,
         }
     }
 }
 
-/// A refusal of a side, which is told with that side.
-fn refusal_on(side: Side, refusal: Option<Refusal>) -> Option<Refusal>
-    ensures { result ≡ through (on_side side) refusal }
-{
-    match refusal {
-        Some(refusal) => Some(Refusal { side, ..refusal }),
-        None => None,
+impl fmt::Display for JobFault {
+    fn fmt<W: fmt::Write>(&self, f: &mut fmt::Formatter<W>) -> fmt::Result {
+        match self {
+            JobFault::BadFrame(fault) => write!(f, "{fault}"),
+            JobFault::BadSide {
+                side: Side::Left,
+                fault,
+            } => write!(f, "left system: {fault}"),
+            JobFault::BadSide {
+                side: Side::Right,
+                fault,
+            } => write!(f, "right system: {fault}"),
+            JobFault::NotAlike(fault) => write!(f, "{fault}"),
+            JobFault::Memory => f.write_str("out of memory"),
+        }
     }
 }
 
-/// An answer about a side, whose fault is told with that side.
-pub(crate) fn on_side<T>(answer: Result<T, SideFault>, side: Side) -> Result<T, JobFault>
-    ensures { result ≡ fault_on side answer }
-{
-    match answer {
-        Ok(value) => Ok(value),
-        Err(fault) => Err(JobFault::BadSide { side, fault }),
-    }
-}
+impl Error for JobFault {}

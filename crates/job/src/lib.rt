@@ -3,6 +3,7 @@
 
 mod checks;
 pub mod fault;
+mod held;
 pub mod job;
 mod loads;
 pub mod outcome;

@@ -7,13 +7,13 @@ ghost use Rattle.network.specs.Loads.{network_asked, network_refusal, net_in};
 ghost use Rattle.frames.specs.Payloads.{side_bytes, setting_of};
 ghost use Rattle.frames.specs.declared.kind.Kind.TheVariants.{Row as RowKind, Link as LinkKind};
 ghost use Rattle.job.specs.Faults.{side_refusal, job_refusal};
-ghost use Rattle.job.specs.Sides.{tables_asked, side_asked, ruled_meaning, loaded_meaning, side_meaning, Holds};
+ghost use Rattle.job.specs.Sides.{tables_asked, side_asked, ruled_meaning, loaded_meaning, side_meaning, side_net};
 ghost use Rattle.job.specs.Jobs.{layouts_asked, Loaded};
 
-use crate::checks::check_side;
-use crate::fault::{JobFault, SideFault, on_side};
+use crate::fault::{JobFault, SideFault};
+use crate::held::Held;
 use crate::job::Job;
-use crate::sides::Checked;
+use crate::sides::{Checked, Records};
 use frames::frame::check;
 use frames::gather::{payloads, relation};
 use frames::kind::Kind;
@@ -27,68 +27,55 @@ use rules::tuner::Tuner;
 use std::alloc::Global;
 use tables::TableFault;
 
-fn load_links(heap: Global, bytes: &[u8], side: Side) -> Result<Links, RuleFault>
-    requires { None ≡ first_no (links_asked (side_bytes LinkKind side bytes.now)) }
-    ensures memory { refusal_of rule_refusal result ≡ None }
-    ensures means { IfOk result (λ x. links_allow x ≡ meets (links_of (side_bytes LinkKind side bytes.now))) }
-{
-    let links = payloads(bytes, Kind::Link, side).ok_or(TableFault::Count)?;
-    Links::load(heap, links.as_slice())
-}
+impl Checked<'_> {
+    fn load_links(&self, heap: Global) -> Result<Links, RuleFault>
+        ensures memory { refusal_of rule_refusal result ≡ None }
+        ensures means { IfOk result (λ x. links_allow x ≡ meets (links_of (side_bytes LinkKind self.now.records.side self.now.records.bytes.now))) }
+    {
+        let Records { bytes, side } = self.records;
+        let links = payloads(bytes, Kind::Link, side).ok_or(TableFault::Count)?;
+        Links::load(heap, links.as_slice())
+    }
 
-fn load_network(
-    heap: Global,
-    bytes: &[u8],
-    side: Side,
-    checked: Checked,
-    rule: Both<Links, Tuner>,
-) -> Result<Network<Both<Links, Tuner>>, NetworkFault>
-    requires { None ≡ first_no (network_asked checked.range.lo checked.range.hi checked.units (side_bytes RowKind side bytes.now)) }
-    ensures memory { refusal_of network_refusal result ≡ None }
-    ensures means { IfOk result (λ n. loaded_meaning n ≡ ruled_meaning (net_in checked.range.lo checked.range.hi checked.free checked.units (side_bytes RowKind side bytes.now)) rule) }
-{
-    let rows = payloads(bytes, Kind::Row, side).ok_or(TableFault::Count)?;
-    Network::load(
-        heap,
-        checked.range,
-        checked.free,
-        checked.units,
-        rows.as_slice(),
-        rule,
-    )
-}
+    fn load_network(
+        &self,
+        heap: Global,
+        rule: Both<Links, Tuner>,
+    ) -> Result<Network<Both<Links, Tuner>>, NetworkFault>
+        ensures memory { refusal_of network_refusal result ≡ None }
+        ensures means { IfOk result (λ n. loaded_meaning n ≡ ruled_meaning (side_net self.now.records.side self.now.records.bytes.now) rule) }
+    {
+        let Records { bytes, side } = self.records;
+        let Held {
+            range,
+            free,
+            units,
+            ..
+        } = self.held;
+        let rows = payloads(bytes, Kind::Row, side).ok_or(TableFault::Count)?;
+        Network::load(heap, range, free, units, rows.as_slice(), rule)
+    }
 
-fn load_tables(
-    heap: Global,
-    bytes: &[u8],
-    side: Side,
-    checked: Checked,
-) -> Result<Network<Both<Links, Tuner>>, SideFault>
-    requires holds { Holds (setting_of side bytes.now) checked }
-    requires asked { None ≡ first_no (tables_asked (setting_of side bytes.now) (side_bytes LinkKind side bytes.now) (side_bytes RowKind side bytes.now)) }
-    ensures memory { refusal_of side_refusal result ≡ None }
-    ensures means { IfOk result (λ n. loaded_meaning n ≡ side_meaning side bytes.now) }
-{
-    let links = load_links(heap, bytes, side)?;
-    let rule = Both {
-        one: links,
-        other: checked.tuner,
-    };
-    Ok(load_network(heap, bytes, side, checked, rule)?)
-}
+    fn load_tables(&self, heap: Global) -> Result<Network<Both<Links, Tuner>>, SideFault>
+        ensures memory { refusal_of side_refusal result ≡ None }
+        ensures means { IfOk result (λ n. loaded_meaning n ≡ side_meaning self.now.records.side self.now.records.bytes.now) }
+    {
+        let rule = Both {
+            one: self.load_links(heap)?,
+            other: self.held.tuner,
+        };
+        Ok(self.load_network(heap, rule)?)
+    }
 
-fn load_side(
-    heap: Global,
-    bytes: &[u8],
-    side: Side,
-    checked: Checked,
-) -> Result<Network<Both<Links, Tuner>>, JobFault>
-    requires holds { Holds (setting_of side bytes.now) checked }
-    requires asked { None ≡ first_no (side_asked side bytes.now) }
-    ensures memory { refusal_of job_refusal result ≡ None }
-    ensures means { IfOk result (λ n. loaded_meaning n ≡ side_meaning side bytes.now) }
-{
-    on_side(load_tables(heap, bytes, side, checked), side)
+    /// The network of the side, if there is memory for it.
+    pub(crate) fn load(&self, heap: Global) -> Result<Network<Both<Links, Tuner>>, JobFault>
+        ensures memory { refusal_of job_refusal result ≡ None }
+        ensures means { IfOk result (λ n. loaded_meaning n ≡ side_meaning self.now.records.side self.now.records.bytes.now) }
+    {
+        let side = self.records.side;
+        self.load_tables(heap)
+            .map_err(|fault| JobFault::BadSide { side, fault })
+    }
 }
 
 impl Job {
@@ -99,11 +86,19 @@ impl Job {
         ensures loads { IfOk result (Loaded bytes.now) }
     {
         check(bytes)?;
-        let left = check_side(bytes, Side::Left)?;
-        let right = check_side(bytes, Side::Right)?;
+        let left = Records {
+            bytes,
+            side: Side::Left,
+        };
+        let right = Records {
+            bytes,
+            side: Side::Right,
+        };
+        let left = left.check()?;
+        let right = right.check()?;
         Ok(Job {
-            left: load_side(heap, bytes, Side::Left, left)?,
-            right: load_side(heap, bytes, Side::Right, right)?,
+            left: left.load(heap)?,
+            right: right.load(heap)?,
             relation: relation(heap, bytes)?,
         })
     }

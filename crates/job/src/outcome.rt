@@ -25,10 +25,7 @@ pub fn answer(heap: Global, bytes: &[u8]) -> Answer
         Ok(pass) => Answer::Accepted {
             count: pass.count(),
         },
-        Err(fault) => match fault.refusal() {
-            Some(refusal) => Answer::Refused(refusal),
-            None => Answer::NoMemory,
-        },
+        Err(fault) => fault.refusal().map_or(Answer::NoMemory, Answer::Refused),
     }
 }
 

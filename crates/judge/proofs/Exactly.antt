@@ -20,7 +20,7 @@ use Rattle.judge.specs.declared.fault.Fault.TheVariants.{Ranges, TooMany, LeftUn
 use Rattle.judge.specs.declared.verdict.Pass.{Pass}
 use Rattle.judge.proofs.Tested.{decides_range, decides_answered}
 
-through_none : {X Y : Type 0} (f : X → Y) (o : Option X) → through f o ≡ None → o ≡ None
+pub through_none : {X Y : Type 0} (f : X → Y) (o : Option X) → through f o ≡ None → o ≡ None
 through_none f None e = refl
 through_none f (Some x) e = absurd (some_none _ _ refl e)
 
