@@ -5,11 +5,15 @@ use model::range::Range;
 use model::state::State;
 use model::unit_state::UnitState;
 use model::value::Value;
+use network::fault::NetworkFault;
 use network::network::Network;
 use rows::row::{Guard, Operand};
+use rules::fault::RuleFault;
+use rules::link::NoLinkKind;
 use std::alloc::Global;
 use std::test::Fail;
 use systems::System;
+use tables::TableFault;
 
 const FREE: GroupSet = GroupSet { bits: 1 };
 
@@ -184,5 +188,19 @@ fn refusals_in_their_order(rt: HostRuntime) -> Result<(), Fail> {
     assert!(rt; is_refused(rt.alloc(), 1, &rows, 7, 1)?);
     rows[0] = 64;
     assert!(rt; is_refused(rt.alloc(), 1, &rows, 7, 0)?);
+    Ok(())
+}
+
+#[test]
+fn faults_in_words(rt: HostRuntime) -> Result<(), Fail> {
+    let units = NetworkFault::Units;
+    let row = NetworkFault::Rows(TableFault::Record { number: 1 });
+    let limit = RuleFault::Limit;
+    let table = RuleFault::Table(TableFault::Count);
+    let kind = NoLinkKind(3);
+    assert_eq!(rt;
+        format!(in rt.alloc(); "{units}; {row}; {limit}; {table}; {kind}")?.as_str(),
+        "there are not 1 to 6 units; record 1 is not as laid out; the limit is above 8; the bytes are no whole records, or too many; no kind of link has the byte 3"
+    );
     Ok(())
 }

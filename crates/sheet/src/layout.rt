@@ -20,9 +20,7 @@ impl RowLayout {
     fn may_carry(&self, groups: GroupSet, value: Value) -> bool
         ensures { result ≡ carried self.now.range.lo self.now.range.hi self.now.channels groups value }
     {
-        !groups.is_empty()
-            && groups.part_within(self.channels) == groups
-            && self.range.holds(value)
+        !groups.is_empty() && groups.part_within(self.channels) == groups && self.range.holds(value)
     }
 
     /// What a row does, from its bytes for kind, set, value, to and other.

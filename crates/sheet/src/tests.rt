@@ -144,3 +144,15 @@ fn rows_counted(rt: HostRuntime) -> Result<(), Fail> {
     );
     Ok(())
 }
+
+#[test]
+fn faults_in_words(rt: HostRuntime) -> Result<(), Fail> {
+    let count = SheetFault(TableFault::Count);
+    let record = SheetFault(TableFault::Record { number: 3 });
+    let memory = SheetFault(TableFault::Memory);
+    assert_eq!(rt;
+        format!(in rt.alloc(); "{count}; {record}; {memory}")?.as_str(),
+        "the bytes are no whole records, or too many; record 3 is not as laid out; out of memory"
+    );
+    Ok(())
+}
