@@ -1,5 +1,5 @@
 -- Bytes and what they stand for. Assumes nothing.
-use Rattle.std.proofs.Common.{◌≡◌, ℕ, ◌+◌, ◌*◌, ◌<◌, List, [], ◌∷◌, ◌++◌, length, get_or, take, drop, ℤ, sym, refl, ap, ◌∙◌, arith, lit<, below_more}
+use Rattle.std.proofs.Common.{◌≡◌, ℕ, ◌+◌, ◌*◌, ◌<◌, List, [], ◌∷◌, ◌++◌, length, get_or, take, drop, sym, refl, ap, ◌∙◌, arith, lit<, below_more}
 use Rattle.std.specs.List.{flat_map}
 use Rattle.std.proofs.lemmas.List.FromFn.{fill_by_all}
 use Rattle.std.proofs.Concat.{flat_map-take_more}
@@ -10,24 +10,7 @@ use Rattle.lists.proofs.Records.{joined_cut}
 use Rattle.model.specs.declared.unit_state.UnitState.{UnitState}
 use Rattle.model.specs.declared.state.State.{State}
 use Rattle.model.specs.declared.state.Pair.{Pair}
-use Rattle.model.specs.Values.{byte_of}
 use Rattle.model.specs.Bytes.{zero_unit, unit_of, unit_bytes, state_of, state_bytes, pair_of, pair_bytes}
-
--- a list of four elements is written out
-four_elements : (b : List ℕ) → length b ≡ 4 → get_or b 0 0 ∷ get_or b 1 0 ∷ get_or b 2 0 ∷ get_or b 3 0 ∷ [] ≡ b
-four_elements [] e = absurd (omega (arith, e))
-four_elements (w ∷ []) e = absurd (omega (arith, e))
-four_elements (w ∷ x ∷ []) e = absurd (omega (arith, e))
-four_elements (w ∷ x ∷ y ∷ []) e = absurd (omega (arith, e))
-four_elements (w ∷ x ∷ y ∷ z ∷ []) e = refl
-four_elements (w ∷ x ∷ y ∷ z ∷ v ∷ b) e = absurd (omega (arith, e))
-
--- the bytes of the unit state that was read from four bytes; u and v are its registers as the code has them
-pub unit_back : (b : List ℕ) (u v u' v' : ℤ) → length b ≡ 4 → u' ≡ u → v' ≡ v → byte_of u ≡ get_or b 1 0 → byte_of v ≡ get_or b 2 0 → unit_bytes (record { location = get_or b 0 0; first = u'; second = v'; groups = record { bits = get_or b 3 0 } }) ≡ b
-unit_back b u v u' v' n p q e f =
-    ap (λ k. get_or b 0 0 ∷ k ∷ byte_of v' ∷ get_or b 3 0 ∷ []) (ap byte_of p ∙ e)
-    ∙ ap (λ k. get_or b 0 0 ∷ get_or b 1 0 ∷ k ∷ get_or b 3 0 ∷ []) (ap byte_of q ∙ f)
-    ∙ four_elements b n
 
 -- the first k units are read from the bytes
 pub record Reading (bytes : List ℕ) (k : ℕ) (units : List UnitState) : Type 0 where

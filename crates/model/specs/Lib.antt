@@ -4,4 +4,5 @@ pub mod Bytes
 pub mod GroupSets
 pub mod Placements
 pub mod Ranges
+pub mod UnitEq
 pub mod Values

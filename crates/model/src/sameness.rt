@@ -1,6 +1,6 @@
 // Nothing that tells two of these apart is left out of a comparison.
 ghost use Rattle.std.proofs.Common.{rules};
-ghost use Rattle.model.specs.Exactly.{state_exact, pair_exact};
+ghost use Rattle.model.specs.Exactly.{unit_exact, state_exact, pair_exact};
 
 use crate::group_set::GroupSet;
 use crate::label::Label;
@@ -13,15 +13,15 @@ impl Exact for GroupSet {
 }
 
 impl Exact for UnitState {
-    ghost exact = { Prim.search rules };
+    ghost exact = { unit_exact };
 }
 
 impl Exact for State {
-    ghost exact = { state_exact (Prim.search rules) };
+    ghost exact = { state_exact };
 }
 
 impl Exact for Pair {
-    ghost exact = { pair_exact (Prim.search rules) };
+    ghost exact = { pair_exact };
 }
 
 impl Exact for Label {
