@@ -1,15 +1,16 @@
 -- A list that grows by what a loop adds. Assumes nothing.
-use Rattle.std.proofs.Common.{◌≡◌, ℕ, zero, suc, ◌+◌, ◌<◌, ◌≤◌, Bool, true, false, cond, List, [], ◌∷◌, ◌++◌, map, length, get_or, take, Some, filter, sym, refl, ap, ◌∙◌, arith}
+use Rattle.std.proofs.Common.{◌≡◌, ℕ, zero, suc, ◌+◌, ◌≤◌, Bool, true, false, cond, List, [], ◌∷◌, ◌++◌, map, length, take, Some, filter, sym, refl, ap, ◌∙◌, arith}
 use Rattle.std.specs.List.{range_with_len, flat_map, slice_get}
-use Rattle.std.proofs.lemmas.List.{append-nil, append_assoc, map-append, map_more, take_all}
+use Rattle.std.proofs.lemmas.List.{append-nil, append_assoc, map-append, take_all}
+use Rattle.std.proofs.lemmas.List.Concat.{flat_map-append}
 use Rattle.std.proofs.lemmas.List.Elements.{filter-append}
-use Rattle.lists.proofs.Listed.{joined_append, counting_push}
+use Rattle.lists.proofs.Listed.{counting_push}
 
 push_0 : (k : ℕ) → range_with_len 0 (k + 1) ≡ range_with_len 0 k ++ (k ∷ [])
 push_0 k = counting_push 0 k ∙ ap (λ b. range_with_len 0 k ++ (b ∷ [])) (let e : 0 + k ≡ k = omega arith in e)
 
 joined_push : {Y : Type 0} (f : ℕ → List Y) (k : ℕ) → flat_map f (range_with_len 0 (k + 1)) ≡ flat_map f (range_with_len 0 k) ++ f k
-joined_push f k = ap (flat_map f) (push_0 k) ∙ (joined_append f (range_with_len 0 k) (k ∷ []) ∙ ap (λ l. flat_map f (range_with_len 0 k) ++ l) (append-nil (f k)))
+joined_push f k = ap (flat_map f) (push_0 k) ∙ (flat_map-append f (range_with_len 0 k) (k ∷ []) ∙ ap (λ l. flat_map f (range_with_len 0 k) ++ l) (append-nil (f k)))
 
 -- a loop that adds f k at each turn
 module _ {Y : Type 0} (f : ℕ → List Y) (k : ℕ) (was now : List Y) (inv : now ≡ was ++ flat_map f (range_with_len 0 k)) where
@@ -49,11 +50,3 @@ module _ {Y : Type 0} (xs : List Y) (k : ℕ) (was now : List Y) (inv : now ≡ 
 
   pub copying_all : length xs ≤ k → now ≡ was ++ xs
   copying_all l = inv ∙ ap (λ ys. was ++ ys) (take_all k xs l)
-
--- a loop that adds what f makes of each element of xs; d is what the code reads past the end
-module _ {X Y : Type 0} (f : X → Y) (xs : List X) (k : ℕ) (now : List Y) (inv : now ≡ map f (take k xs)) where
-  pub mapping_more : (d : X) (y : Y) (next : List Y) → k < length xs → y ≡ f (get_or xs k d) → next ≡ now ++ (y ∷ []) → next ≡ map f (take (k + 1) xs)
-  mapping_more d y next h e n = n ∙ ap (λ l. l ++ (y ∷ [])) inv ∙ ap (λ z. map f (take k xs) ++ (z ∷ [])) e ∙ sym (map_more f xs k d h)
-
-  pub mapping_all : length xs ≤ k → now ≡ map f xs
-  mapping_all l = inv ∙ ap (map f) (take_all k xs l)

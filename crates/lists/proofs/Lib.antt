@@ -8,5 +8,8 @@ pub mod Adding
 pub mod Gathered
 pub mod Kept
 pub mod Mapped
+pub mod LaidOut
+pub mod Ranges
+pub mod Multiplied
 pub mod Filled
 pub mod Every

@@ -1,2 +1,4 @@
-// Facts on lists over any type. The words stand in specs/, the facts in proofs/; there is no code.
+// Facts on lists over any type, and where a number stands in lists laid end to end.
 #![tactic(auto)]
+
+pub mod blocks;
