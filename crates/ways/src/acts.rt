@@ -6,6 +6,7 @@ ghost use Rattle.ways.specs.Ways.{combinations, acts_by, acts_of, acts};
 use crate::slots::unit_at;
 use crate::table::Table;
 use crate::way::{Choice, Way};
+use lists::blocks::locate;
 use model::state::State;
 use model::unit_state::UNITS;
 use rows::row::Action;
@@ -75,25 +76,17 @@ impl Table {
         ensures is { result ≡ length (acts_of (net_of self.now) state.now unit) }
         ensures few { result ≤ 64 * 65 ^ 6 }
     {
-        let mut count = 0;
-        for row in 0..self.program.rows.len() {
-            count += self.count_by(state, unit, row);
-        }
-        count
+        (0..self.program.rows.len())
+            .map(|row| self.count_by(state, unit, row))
+            .sum()
     }
 
     fn act_of(&self, state: &State, unit: usize, number: usize) -> Option<Way>
         ensures { result ≡ slice_get (acts_of (net_of self.now) state.now unit) number }
     {
-        let mut left = number;
-        for row in 0..self.program.rows.len() {
-            let count = self.count_by(state, unit, row);
-            if left < count {
-                return Some(self.act_by(state, unit, row, left));
-            }
-            left -= count;
-        }
-        None
+        let rows = self.program.rows.len();
+        let (row, left) = locate(rows, |row| self.count_by(state, unit, row), number)?;
+        Some(self.act_by(state, unit, row, left))
     }
 
     /// In how many ways units take rows.
@@ -101,25 +94,14 @@ impl Table {
         ensures is { result ≡ length (acts (net_of self.now) state.now) }
         ensures few { result ≤ 6 * (64 * 65 ^ 6) }
     {
-        let mut count = 0;
-        for unit in 0..self.units {
-            count += self.count_of(state, unit);
-        }
-        count
+        (0..self.units).map(|unit| self.count_of(state, unit)).sum()
     }
 
     /// The way with this number among those in which units take rows.
     pub fn act(&self, state: &State, number: usize) -> Option<Way>
         ensures { result ≡ slice_get (acts (net_of self.now) state.now) number }
     {
-        let mut left = number;
-        for unit in 0..self.units {
-            let count = self.count_of(state, unit);
-            if left < count {
-                return self.act_of(state, unit, left);
-            }
-            left -= count;
-        }
-        None
+        let (unit, left) = locate(self.units, |unit| self.count_of(state, unit), number)?;
+        self.act_of(state, unit, left)
     }
 }

@@ -16,11 +16,9 @@ impl Table {
         ensures is { result ≡ volume (map (choices (net_of self.now) state.now sender) (range_with_len 0 6)) }
         ensures few { result ≤ 65 ^ 6 }
     {
-        let mut size = 1;
-        for unit in 0..UNITS {
-            size *= self.choice_count(state, sender, unit);
-        }
-        size
+        (0..UNITS)
+            .map(|unit| self.choice_count(state, sender, unit))
+            .product()
     }
 
     /// The combination with this number, digit by digit: the lowest unit is the slowest.
@@ -28,6 +26,7 @@ impl Table {
         requires { number < volume (map (choices (net_of self.now) state.now sender) (range_with_len 0 6)) }
         ensures { result ≡ digits Stay (map (choices (net_of self.now) state.now sender) (range_with_len 0 6)) number }
     {
+        // Each digit is taken from what the slower ones left.
         let mut chosen = [Choice::Stay; UNITS];
         let mut rest = number;
         let mut size = self.combination_count(state, sender);

@@ -21,29 +21,19 @@ impl Table {
         ensures is { result ≡ length (receivable_rows (net_of self.now) state.now unit) }
         ensures few { result ≤ 64 }
     {
-        let mut count = 0;
-        for row in 0..self.program.rows.len() {
-            if self.is_receivable(state, unit, row) {
-                count += 1;
-            }
-        }
-        count
+        (0..self.program.rows.len())
+            .filter(|&row| self.is_receivable(state, unit, row))
+            .count()
     }
 
     /// The choice to take the receivable row with this number among the unit's receivable rows.
     fn receiving(&self, state: &State, unit: usize, number: usize) -> Option<Choice>
         ensures { result ≡ slice_get (map Take (receivable_rows (net_of self.now) state.now unit)) number }
     {
-        let mut left = number;
-        for row in 0..self.program.rows.len() {
-            if self.is_receivable(state, unit, row) {
-                if left == 0 {
-                    return Some(Choice::Take { row });
-                }
-                left -= 1;
-            }
-        }
-        None
+        (0..self.program.rows.len())
+            .filter(|&row| self.is_receivable(state, unit, row))
+            .map(|row| Choice::Take { row })
+            .nth(number)
     }
 
     /// Whether `unit` is another unit than the sender, and linked to it.
@@ -77,9 +67,7 @@ impl Table {
         if number == 0 || !self.is_listener(state, sender, unit) {
             return Choice::Stay;
         }
-        match self.receiving(state, unit, number - 1) {
-            Some(choice) => choice,
-            None => Choice::Stay,
-        }
+        self.receiving(state, unit, number - 1)
+            .unwrap_or(Choice::Stay)
     }
 }

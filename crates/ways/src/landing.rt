@@ -44,16 +44,9 @@ fn slot_moved(state: &State, unit: usize, set: GroupSet, slot: usize) -> UnitSta
 pub fn moved(state: &State, unit: usize, set: GroupSet) -> State
     ensures { result ≡ moved state.now unit set }
 {
-    let mut units = [UnitState {
-        location: 0,
-        first: 0,
-        second: 0,
-        groups: GroupSet { bits: 0 },
-    }; UNITS];
-    for slot in 0..UNITS {
-        units[slot] = slot_moved(state, unit, set, slot);
+    State {
+        units: std::array::from_fn(|slot| slot_moved(state, unit, set, slot)),
     }
-    State { units }
 }
 
 impl Table {
@@ -61,17 +54,9 @@ impl Table {
     pub fn placement(&self, state: &State) -> Placement
         ensures { sets_of result ≡ placed (net_of self.now) state.now }
     {
-        let u = &state.units;
         Placement {
             units: self.units,
-            slots: [
-                u[0].groups,
-                u[1].groups,
-                u[2].groups,
-                u[3].groups,
-                u[4].groups,
-                u[5].groups,
-            ],
+            slots: state.units.map(|unit| unit.groups),
         }
     }
 
@@ -149,16 +134,11 @@ impl Table {
     ) -> State
         ensures { result ≡ acted (net_of self.now) state.now unit row choices.now value }
     {
-        let mut units = [UnitState {
-            location: 0,
-            first: 0,
-            second: 0,
-            groups: GroupSet { bits: 0 },
-        }; UNITS];
-        for slot in 0..UNITS {
-            units[slot] = self.slot_after(state, unit, row, choices, value, slot);
+        State {
+            units: std::array::from_fn(|slot| {
+                self.slot_after(state, unit, row, choices, value, slot)
+            }),
         }
-        State { units }
     }
 
     /// Where a way lands for a value.

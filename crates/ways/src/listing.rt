@@ -70,10 +70,8 @@ impl Table {
     ) -> Result<Vec<Listed>, AllocError>
         ensures { IfOk result (λ v. v.items ≡ map (listed_of (net_of self.now) state.now value) ways.now) }
     {
-        let mut steps = Vec::new(heap);
-        for i in 0..ways.len() {
-            steps.push(self.listed(state, &ways[i], value))?;
-        }
-        Ok(steps)
+        ways.iter()
+            .map(|way| self.listed(state, way, value))
+            .collect(heap)
     }
 }

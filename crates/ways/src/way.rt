@@ -2,6 +2,7 @@ use model::group_set::GroupSet;
 use model::unit_state::UNITS;
 
 /// What a unit does while another one broadcasts: it stays as it is, or takes a row to receive.
+// The calculus has these two names for what a listener does; `None` and `Some(row)` would say less.
 #[derive(Clone, Copy)]
 pub enum Choice {
     Stay,

@@ -1,7 +1,28 @@
-use Rattle.lists.proofs.Listed.{count_more}
+use Rattle.std.proofs.Common.{◌+◌, ◌*◌, ◌^◌, ◌≤◌, length, sym, ◌∙◌, arith, rules, tests}
+use Rattle.std.specs.List.{range_with_len}
+use Rattle.std.proofs.lemmas.List.FromFn.{length-range_with_len}
+use Rattle.std.proofs.lemmas.List.Concat.{length-flat_map}
+use Rattle.std.proofs.lemmas.Iterator.{YieldsList-from_range, YieldsList-from_map}
+use Rattle.std.proofs.lemmas.Iterator.Adapters.{fits_from_length, at_most_from_yields_List}
+use Rattle.std.proofs.lemmas.Iterator.Consumers.{sum_by_from_yields_List}
 use Rattle.ways.specs.Nets.{net_of}
 use Rattle.ways.specs.Ways.{acts_by}
 use Rattle.ways.proofs.table.Table.count_of.Goals as goal
 
-pub loop-row-preserved : goal.loop-row-preserved
-loop-row-preserved c = count_more (acts_by (net_of c.args.self.now) c.args.state.now c.args.unit) _ _ _ _ c.loop-row.invariant c.count_by-count.ensures.is c.count_by-count.ensures.few
+pub sum-requires-clause-fits : goal.sum-requires-clause-fits
+sum-requires-clause-fits c =
+    let few : length (range_with_len 0 c.len.result) ≤ 64 = omega (arith, length-range_with_len 0 c.len.result) in
+    fits_from_length _ _ 64 _ (at_most_from_yields_List (YieldsList-from_range 0 c.len.result c.len.result (cc) (search rules)) few) c.map.ensures.closure (omega arith) (λ x r q k. search (rules, tests))
+
+pub returns-clause-few : goal.returns-clause-few
+returns-clause-few c =
+    let few : length (range_with_len 0 c.len.result) ≤ 64 = omega (arith, length-range_with_len 0 c.len.result) in
+    let w = c.sum.ensures.runs tt in
+    let l = fits_from_length _ _ 64 (64 * 65 ^ 6 + 1) (at_most_from_yields_List (YieldsList-from_range 0 c.len.result c.len.result (cc) (search rules)) few) c.map.ensures.closure (omega arith) (λ x r q k. search (rules, tests)) w.0 w.0.seen w.1 in
+    omega (arith, l, w.3)
+
+pub returns-clause-is : goal.returns-clause-is
+returns-clause-is c =
+    let f = acts_by (net_of c.args.self.now) c.args.state.now c.args.unit in
+    sum_by_from_yields_List (λ k. length (f k)) (range_with_len 0 (length (net_of c.args.self.now).rows)) _ _ c.sum.ensures.ran (YieldsList-from_map _ _ (YieldsList-from_range 0 c.len.result (length (net_of c.args.self.now).rows) (cc) (search rules)) c.map.ensures.closure (λ x r q k. search rules))
+    ∙ sym (length-flat_map f (range_with_len 0 (length (net_of c.args.self.now).rows)))
