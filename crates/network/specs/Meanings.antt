@@ -23,9 +23,13 @@ abbrev pub may_move : Net → (List GroupSet → Bool) → State → ℕ → Gro
 may_move n allowed s u g =
     not (g.bits == (unit_at s u).groups.bits) && ((part n.free g).bits == (free_part n (unit_at s u)).bits && allowed (placed n (moved s u g)))
 
+-- the numbers of the sets
+unfoldable pub set_numbers : List ℕ
+set_numbers = range_with_len 0 256
+
 -- the movements of the unit u, by the number of the set
 abbrev pub movements_of : Net → (List GroupSet → Bool) → State → ℕ → List Way
-movements_of n allowed s u = map (λ b. Move u (set_of b)) (filter (λ b. may_move n allowed s u (set_of b)) (range_with_len 0 256))
+movements_of n allowed s u = map (λ b. Move u (set_of b)) (filter (λ b. may_move n allowed s u (set_of b)) set_numbers)
 
 abbrev pub movements : Net → (List GroupSet → Bool) → State → List Way
 movements n allowed s = flat_map (movements_of n allowed s) (range_with_len 0 n.units)

@@ -22,7 +22,7 @@ fn is_in_range(table: &Table, unit: &UnitState) -> bool
 fn is_zero(unit: &UnitState) -> bool
     ensures { result ≡ zero_bytes unit.now }
 {
-    unit.location == 0 && unit.first == 0 && unit.second == 0 && unit.groups.bits == 0
+    *unit == UnitState::default()
 }
 
 fn is_slot_lawful(table: &Table, state: &State, slot: usize) -> bool
@@ -39,22 +39,18 @@ fn is_slot_lawful(table: &Table, state: &State, slot: usize) -> bool
 fn are_slots_lawful(table: &Table, state: &State) -> bool
     ensures { result ≡ every (slot_lawful (net_of table.now) state.now) (range_with_len 0 6) }
 {
-    for slot in 0..UNITS {
-        if !is_slot_lawful(table, state, slot) {
-            return false;
-        }
-    }
-    true
+    (0..UNITS).all(|slot| is_slot_lawful(table, state, slot))
 }
 
 /// The free part of the union of the units' sets.
 pub(crate) fn union_shown(table: &Table, state: &State) -> GroupSet
     ensures { result ≡ union_shown (net_of table.now) state.now }
 {
-    let mut union = GroupSet { bits: 0 };
-    for slot in 0..table.units {
-        union = union.union(state.units[slot].groups);
-    }
+    let union = state.units[..table.units]
+        .iter()
+        .fold(GroupSet { bits: 0 }, |union, unit| {
+            union.union(unit.groups)
+        });
     union.part_within(table.free)
 }
 

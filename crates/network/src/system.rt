@@ -70,7 +70,7 @@ impl<R: Rule> System for Network<R> {
         if self.is_state_lawful(state) {
             union_shown(&self.table, state)
         } else {
-            GroupSet { bits: 0 }
+            GroupSet::default()
         }
     }
 
@@ -83,20 +83,16 @@ impl<R: Rule> System for Network<R> {
     }
 
     fn label(&self, state: &State, step: u64) -> Option<Label> {
-        match self.way(state, step as usize) {
-            Some(way) => Some(self.table.label_of(state, &way)),
-            None => None,
-        }
+        self.way(state, step as usize)
+            .map(|way| self.table.label_of(state, &way))
     }
 
     fn landing(&self, state: &State, step: u64, value: Value) -> Option<State> {
         if !self.table.program.range.holds(value) {
             return None;
         }
-        match self.way(state, step as usize) {
-            Some(way) => Some(self.table.landing_of(state, &way, value)),
-            None => None,
-        }
+        let way = self.way(state, step as usize)?;
+        Some(self.table.landing_of(state, &way, value))
     }
 
     fn list(&self, heap: Global, state: &State, value: Value) -> Result<Vec<Listed>, AllocError> {

@@ -1,11 +1,28 @@
-use Rattle.std.proofs.Common.{arith}
-use Rattle.lists.proofs.Listed.{count_more}
+use Rattle.std.proofs.Common.{◌+◌, ◌*◌, ◌≤◌, length, sym, ◌∙◌, arith, rules, tests}
+use Rattle.std.specs.List.{range_with_len}
+use Rattle.std.proofs.lemmas.List.FromFn.{length-range_with_len}
+use Rattle.std.proofs.lemmas.List.Concat.{length-flat_map}
+use Rattle.std.proofs.lemmas.Iterator.{YieldsList-from_range, YieldsList-from_map}
+use Rattle.std.proofs.lemmas.Iterator.Adapters.{fits_from_length, at_most_from_yields_List}
+use Rattle.std.proofs.lemmas.Iterator.Consumers.{sum_by_from_yields_List}
 use Rattle.ways.specs.Nets.{net_of}
 use Rattle.network.specs.Meanings.{movements_of}
 use Rattle.network.proofs.network.Network.movement_count.Goals as goal
 
-pub loop-unit-preserved : goal.loop-unit-preserved
-loop-unit-preserved g c = count_more (movements_of (net_of c.args.self.now.table) (g.R.Rule.allowed c.args.self.now.rule) c.args.state.now) _ _ _ _ c.loop-unit.invariant c.movement_count_of-count.ensures.is c.movement_count_of-count.ensures.few
+pub sum-requires-clause-fits : goal.sum-requires-clause-fits
+sum-requires-clause-fits g c =
+    let few : length (range_with_len 0 c.args.self.now.table.units) ≤ 6 = omega (arith, length-range_with_len 0 c.args.self.now.table.units) in
+    fits_from_length _ _ 6 _ (at_most_from_yields_List (YieldsList-from_range 0 c.args.self.now.table.units c.args.self.now.table.units (cc) (search rules)) few) c.map.ensures.closure (omega arith) (λ x r q k. search (rules, tests))
 
-pub overflow_add-count : goal.overflow_add-count
-overflow_add-count g c = record { fits = omega (arith, c.loop-unit.invariant.1, c.movement_count_of-count.ensures.few, c.loop-unit-test.true, c.args.self.now.table.most) }
+pub returns-clause-few : goal.returns-clause-few
+returns-clause-few g c =
+    let few : length (range_with_len 0 c.args.self.now.table.units) ≤ 6 = omega (arith, length-range_with_len 0 c.args.self.now.table.units) in
+    let w = c.sum.ensures.runs tt in
+    let l = fits_from_length _ _ 6 (6 * 256 + 1) (at_most_from_yields_List (YieldsList-from_range 0 c.args.self.now.table.units c.args.self.now.table.units (cc) (search rules)) few) c.map.ensures.closure (omega arith) (λ x r q k. search (rules, tests)) w.0 w.0.seen w.1 in
+    omega (arith, l, w.3)
+
+pub returns-clause-is : goal.returns-clause-is
+returns-clause-is g c =
+    let f = movements_of (net_of c.args.self.now.table) (g.R.Rule.allowed c.args.self.now.rule) c.args.state.now in
+    sum_by_from_yields_List (λ k. length (f k)) (range_with_len 0 c.args.self.now.table.units) _ _ c.sum.ensures.ran (YieldsList-from_map _ _ (YieldsList-from_range 0 c.args.self.now.table.units c.args.self.now.table.units (cc) (search rules)) c.map.ensures.closure (λ x r q k. search rules))
+    ∙ sym (length-flat_map f (range_with_len 0 c.args.self.now.table.units))

@@ -1,21 +1,16 @@
-use Rattle.lists.proofs.Listed.{sift_here, sift_yes, sift_no, sift_none}
+use Rattle.std.proofs.Common.{ℕ, sym, ◌∙◌, rules, tests}
+use Rattle.std.proofs.lemmas.Iterator.{YieldsList-from_map}
+use Rattle.std.proofs.lemmas.Iterator.Adapters.{option_map_id}
+use Rattle.std.proofs.lemmas.Iterator.Consumers.{nth_from_yields_List, YieldsList-at, YieldsList-from_filter}
+use Rattle.lists.proofs.Ranges.{YieldsList-from_inclusive}
 use Rattle.ways.specs.Nets.{net_of}
 use Rattle.ways.specs.declared.way.Way.TheVariants.{Move}
-use Rattle.network.specs.Meanings.{may_move, set_of}
+use Rattle.network.proofs.Sets.{numbers_are}
+use Rattle.network.specs.Meanings.{set_numbers, may_move, set_of}
 use Rattle.network.proofs.network.Network.movement_of.Goals as goal
-use Rattle.network.proofs.network.Network.movement_of.Goals.{then-may_move+else-left-eq0, else-may_move}
-
-pub returns-then-left-eq0 : goal.returns-then-left-eq0
-returns-then-left-eq0 g c =
-    sift_here (λ b. may_move (net_of c.args.self.now.table) (g.R.Rule.allowed c.args.self.now.rule) c.args.state.now c.args.unit (set_of b)) (λ b. Move c.args.unit (set_of b)) 256 c.loop-bits.bits _ _ c.loop-bits.invariant c.loop-bits-test.true c.may_move.result c.may_move.ensures c.if-may_move.true c.if-left-eq0.true
-
-pub loop-bits-preserved : goal.loop-bits-preserved
-loop-bits-preserved g c =
-    elim c.if-may_move.branch [
-      | then-may_move+else-left-eq0 w ↦ rw w.left-is (sift_yes (λ b. may_move (net_of c.args.self.now.table) (g.R.Rule.allowed c.args.self.now.rule) c.args.state.now c.args.unit (set_of b)) (λ b. Move c.args.unit (set_of b)) 256 c.loop-bits.bits _ _ c.loop-bits.invariant c.loop-bits-test.true c.may_move.result c.may_move.ensures w.if-may_move.true w.if-left-eq0.false)
-      | else-may_move w ↦ rw w.left-is (sift_no (λ b. may_move (net_of c.args.self.now.table) (g.R.Rule.allowed c.args.self.now.rule) c.args.state.now c.args.unit (set_of b)) (λ b. Move c.args.unit (set_of b)) 256 c.loop-bits.bits _ _ c.loop-bits.invariant c.loop-bits-test.true c.may_move.result c.may_move.ensures w.if-may_move.false)
-    ]
 
 pub returns : goal.returns
 returns g c =
-    sift_none (λ b. may_move (net_of c.args.self.now.table) (g.R.Rule.allowed c.args.self.now.rule) c.args.state.now c.args.unit (set_of b)) (λ b. Move c.args.unit (set_of b)) 256 c.loop-bits.bits _ _ c.loop-bits.invariant c.loop-bits-test.false
+    let may = λ (b : ℕ). may_move (net_of c.args.self.now.table) (g.R.Rule.allowed c.args.self.now.rule) c.args.state.now c.args.unit (set_of b) in
+    sym (option_map_id c.nth.result)
+    ∙ nth_from_yields_List _ _ _ c.nth.ensures.ran (YieldsList-from_map _ (λ b. Move c.args.unit (set_of b)) (YieldsList-at c.map.ensures.source (YieldsList-from_filter _ may (YieldsList-from_inclusive 0 256 set_numbers numbers_are (cc) (cc) (search rules)) c.filter.ensures.closure (λ x b q k. search (rules, tests)))) c.map.ensures.closure (λ x r q k. search rules))
