@@ -1,5 +1,5 @@
 -- The ways stand in ascending order. Assumes nothing.
-use Rattle.std.proofs.Common.{◌≡◌, ℕ, ◌<◌, Bool, true, false, cond, ◌⊎◌, List, [], ◌∷◌, map, length, filter, sym, refl, ◌∙◌, inl, inr, arith}
+use Rattle.std.proofs.Common.{◌≡◌, ℕ, ◌<◌, Bool, true, false, cond, ◌⊎◌, List, [], ◌∷◌, map, length, filter, sym, subst, refl, ◌∙◌, inl, inr, arith}
 use Rattle.std.specs.List.{range_with_len, AllByRecursion}
 use Rattle.model.specs.declared.state.State.{State}
 use Rattle.rows.specs.declared.row.Action.{Action}
@@ -13,7 +13,8 @@ use Rattle.ways.specs.declared.way.Choice.{Choice}
 use Rattle.ways.specs.declared.way.Choice.TheVariants.{Stay, Take}
 use Rattle.ways.specs.Nets.{Net, unit_at, row_at, free_part}
 use Rattle.ways.specs.Ways.{receivable_at, receivable_rows, listener, choices, combinations, acts_by, acts_of, acts, all_stay}
-use Rattle.network.specs.Meanings.{set_of, may_move, movements_of, movements, ways}
+use Rattle.network.proofs.Sets.{numbers_are}
+use Rattle.network.specs.Meanings.{set_of, set_numbers, may_move, movements_of, movements, ways}
 use Rattle.lists.specs.Products.{Sorted, Lexicographic}
 use Rattle.calculus.specs.Exactness.{ChoiceBefore, Earlier}
 use Rattle.lists.proofs.Ordered.{sorted_append, sorted_map, sorted_kept, sorted_counting, sorted_when, sorted_joined, sorted_product, lexicographic_strict, Rising, all_cross, all_joined, all_mapped, all_when}
@@ -127,12 +128,12 @@ module _ (t : Net) (s : State) where
 
   module _ (allowed : List GroupSet → Bool) where
     all_moves : (P : Way → Type 0) (u : ℕ) → ((g : GroupSet) → P (Move u g)) → AllByRecursion P (movements_of t allowed s u)
-    all_moves P u h = all_mapped P (λ b. Move u (set_of b)) (filter (λ b. may_move t allowed s u (set_of b)) (range_with_len 0 256)) (λ b. h (set_of b))
+    all_moves P u h = all_mapped P (λ b. Move u (set_of b)) (filter (λ b. may_move t allowed s u (set_of b)) set_numbers) (λ b. h (set_of b))
 
     sorted_moves : Sorted Earlier (movements t allowed s)
     sorted_moves =
         sorted_joined ◌<◌ Earlier (movements_of t allowed s) (range_with_len 0 t.units) (sorted_counting 0 t.units)
-        (λ u. sorted_map ◌<◌ Earlier (λ b. Move u (set_of b)) (filter (λ b. may_move t allowed s u (set_of b)) (range_with_len 0 256)) (λ x y h. inr (refl, h)) (sorted_kept ◌<◌ (λ b. may_move t allowed s u (set_of b)) (range_with_len 0 256) (sorted_counting 0 256)))
+        (λ u. sorted_map ◌<◌ Earlier (λ b. Move u (set_of b)) (filter (λ b. may_move t allowed s u (set_of b)) set_numbers) (λ x y h. inr (refl, h)) (sorted_kept ◌<◌ (λ b. may_move t allowed s u (set_of b)) set_numbers (subst (Sorted ◌<◌) (sym numbers_are) (sorted_counting 0 256))))
         (λ u u' h. all_cross (MoveOf u) (MoveOf u') Earlier (movements_of t allowed s u) (movements_of t allowed s u') (moves_apart u u' h) (all_moves (MoveOf u) u (λ g. refl)) (all_moves (MoveOf u') u' (λ g. refl)))
 
     pub ascending : Sorted Earlier (ways t allowed s)

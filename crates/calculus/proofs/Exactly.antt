@@ -25,7 +25,8 @@ use Rattle.ways.specs.declared.way.Choice.TheVariants.{Stay, Take}
 use Rattle.ways.specs.Nets.{Net, unit_at, row_at, free_part}
 use Rattle.ways.specs.Ways.{choices, combinations, acts_by, acts_of, acts, all_stay}
 use Rattle.ways.specs.Landings.{chosen, slot_after, acted, incoming, act_label, label_of, landing_of, placed, moved, step_of}
-use Rattle.network.specs.Meanings.{set_of, may_move, movements_of, movements, ways, lawful}
+use Rattle.network.proofs.Sets.{numbers_are}
+use Rattle.network.specs.Meanings.{set_of, set_numbers, may_move, movements_of, movements, ways, lawful}
 use Rattle.lists.specs.Products.{In, head}
 use Rattle.calculus.specs.Calculus.{NodeAction, out, inp, tau, NoOutput, Node, by_tau, by_recv, Parallel, Derives, by_mobility, by_res_tau, by_res_out, by_res_hide, by_res_inp}
 use Rattle.calculus.specs.Exactness.{Exact}
@@ -197,9 +198,9 @@ module _ (t : Net) (allowed : List GroupSet → Bool) (s : State) (most : t.unit
       step (inl n) =
           let p = joined_in (movements_of t allowed s) (range_with_len 0 t.units) n in
           let u = counting_in 0 t.units p.0 p.1.0 in
-          let q = in_mapped (λ b. Move p.0 (set_of b)) (filter (λ b. may_move t allowed s p.0 (set_of b)) (range_with_len 0 256)) p.1.1 in
-          let r = kept_in (λ b. may_move t allowed s p.0 (set_of b)) (range_with_len 0 256) q.1.0 in
-          let g = counting_in 0 256 q.0 r.0 in
+          let q = in_mapped (λ b. Move p.0 (set_of b)) (filter (λ b. may_move t allowed s p.0 (set_of b)) set_numbers) p.1.1 in
+          let r = kept_in (λ b. may_move t allowed s p.0 (set_of b)) set_numbers q.1.0 in
+          let g = counting_in 0 256 q.0 (subst (In q.0) numbers_are r.0) in
           subst (λ x. Made x (label_of t s x)) (sym q.1.1) (move_from p.0 (set_of q.0) (omega arith) (omega arith) r.1)
       step (inr n) =
           let p = joined_in (acts_of t s) (range_with_len 0 t.units) n in
@@ -277,7 +278,7 @@ module _ (t : Net) (allowed : List GroupSet → Bool) (s : State) (most : t.unit
   listed : (w : Way) (l : Label) (f : ℤ → State) → Derives t allowed s w l f → Listed w l f
   listed w l f (by_mobility u g h g-low other free ok) = (
     in_left (acts t s) (in_joined (movements_of t allowed s) (range_with_len 0 t.units) (in_counting 0 t.units u (omega arith) (omega arith))
-        (in_map (λ b. Move u (set_of b)) (in_kept (λ b. may_move t allowed s u (set_of b)) (range_with_len 0 256) (in_counting 0 256 g.bits (omega arith) (omega arith))
+        (in_map (λ b. Move u (set_of b)) (in_kept (λ b. may_move t allowed s u (set_of b)) set_numbers (subst (In g.bits) (sym numbers_are) (in_counting 0 256 g.bits (omega arith) (omega arith)))
         (and_from (not (eqb g.bits (unit_at s u).groups.bits)) (eqb (part t.free g).bits (free_part t (unit_at s u)).bits && allowed (placed t (moved s u g)))
         (not_from_false (eqb g.bits (unit_at s u).groups.bits) (ne_eqb g.bits (unit_at s u).groups.bits other))
         (and_from (eqb (part t.free g).bits (free_part t (unit_at s u)).bits) (allowed (placed t (moved s u g))) (eq-eqb (part t.free g).bits (free_part t (unit_at s u)).bits (ap (λ (x : GroupSet). x.bits) free)) ok))))),

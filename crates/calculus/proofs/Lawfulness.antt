@@ -33,7 +33,7 @@ use Rattle.ways.specs.declared.way.Way.TheVariants.{Move, Act}
 use Rattle.ways.specs.Nets.{Net, unit_at, row_at, idle, free_part}
 use Rattle.ways.specs.Ways.{listener, receivable_rows, choices, combinations, acts_by, acts_of, acts, all_stay}
 use Rattle.ways.specs.Landings.{chosen, slot_after, acted, incoming, on_set, moved, landing_of, placed, step_of}
-use Rattle.network.specs.Meanings.{set_of, may_move, movements_of, movements, ways, unit_in_range, zero_bytes, slot_lawful, lawful, lawful_ways, network_meaning}
+use Rattle.network.specs.Meanings.{set_of, set_numbers, may_move, movements_of, movements, ways, unit_in_range, zero_bytes, slot_lawful, lawful, lawful_ways, network_meaning}
 use Rattle.network.proofs.Slots.{nth_slot}
 use Rattle.calculus.specs.Lawfulness.{LandsLawfully}
 
@@ -223,8 +223,8 @@ module _ (n : Net) (allowed : List GroupSet → Bool) (s : State) (most : n.unit
       step (inl q) =
           let p = joined_in (movements_of n allowed s) (range_with_len 0 n.units) q in
           let u = counting_in 0 n.units p.0 p.1.0 in
-          let r = in_mapped (λ b. Move p.0 (set_of b)) (filter (λ b. may_move n allowed s p.0 (set_of b)) (range_with_len 0 256)) p.1.1 in
-          let y = kept_in (λ b. may_move n allowed s p.0 (set_of b)) (range_with_len 0 256) r.1.0 in
+          let r = in_mapped (λ b. Move p.0 (set_of b)) (filter (λ b. may_move n allowed s p.0 (set_of b)) set_numbers) p.1.1 in
+          let y = kept_in (λ b. may_move n allowed s p.0 (set_of b)) set_numbers r.1.0 in
           subst (λ x. lawful n allowed (landing_of n s x v) ≡ true) (sym r.1.1) (move_lawful p.0 (set_of r.0) (omega arith) y.1)
       step (inr q) =
           let p = joined_in (acts_of n s) (range_with_len 0 n.units) q in

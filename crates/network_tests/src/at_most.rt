@@ -13,11 +13,6 @@ impl Rule for AtMost {
     ghost allowed = { λ x. within x.limit };
 
     fn allows(&self, placement: &Placement) -> bool {
-        for set in placement.sets() {
-            if set.count() > self.limit {
-                return false;
-            }
-        }
-        true
+        placement.sets().iter().all(|set| set.count() <= self.limit)
     }
 }
