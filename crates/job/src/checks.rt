@@ -51,6 +51,7 @@ impl<'a> Records<'a> {
     }
 
     /// All questions to the setting and the records.
+    #[tactic(auto, using(crate::proofs::Tables::links_refused, crate::proofs::Tables::tuner_refused, crate::proofs::Tables::network_asked_lem))]
     fn check_tables(&self) -> Result<Held, SideFault>
         ensures certain { Certain side_refusal result }
         ensures refuses { refusal_of side_refusal result ≡ first_no (tables_asked (setting_of self.now.side self.now.bytes.now) (side_bytes Links self.now.side self.now.bytes.now) (side_bytes Rows self.now.side self.now.bytes.now)) }

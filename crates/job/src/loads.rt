@@ -28,6 +28,7 @@ use std::alloc::Global;
 use tables::TableFault;
 
 impl Checked<'_> {
+    #[tactic(auto, using(crate::proofs::Tables::side_links))]
     fn load_links(&self, heap: Global) -> Result<Links, RuleFault>
         ensures memory { refusal_of rule_refusal result ≡ None }
         ensures means { IfOk result (λ x. links_allow x ≡ meets (links_of (side_bytes LinkKind self.now.records.side self.now.records.bytes.now))) }
@@ -81,6 +82,7 @@ impl Checked<'_> {
 impl Job {
     /// The job that an input describes. Its questions are those of the layouts: 22, 23, and 1 to 7 of either side. Memory is
     /// asked for once every one of them is answered yes.
+    #[tactic(auto, using(crate::proofs::Layouts::frames_refused, crate::proofs::Layouts::left_refused, crate::proofs::Layouts::right_asked))]
     pub fn load(heap: Global, bytes: &[u8]) -> Result<Job, JobFault>
         ensures refuses { refusal_of job_refusal result ≡ first_no (layouts_asked bytes.now) }
         ensures loads { IfOk result (Loaded bytes.now) }
