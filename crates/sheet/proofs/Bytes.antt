@@ -12,14 +12,10 @@ use Rattle.sheet.specs.States.{zeros, sheet_lawful, number_of, state_at}
 pub after_first : (bytes : List ℕ) → length bytes ≡ 24 → take 23 (drop 1 bytes) ≡ drop 1 bytes
 after_first bytes n = take_all 23 (drop 1 bytes) (simp length-drop (omega (arith, n)))
 
--- the state with a number is lawful, and has that number
+-- the state with a number is lawful
 pub lawful_at : (n : ℕ) → sheet_lawful (state_at n) ≡ true
 unfolding state_of state_bytes
 lawful_at n = refl
-
-pub number_at : (n : ℕ) → number_of (state_at n) ≡ n
-unfolding state_of state_bytes
-number_at n = refl
 
 all_zeros : (n k : ℕ) (bytes : List ℕ) → length bytes ≡ n → every_from (λ _ b. eqb b 0) k bytes ≡ true → bytes ≡ replicate n 0
 all_zeros zero k [] e z = refl
