@@ -21,7 +21,6 @@ count '1c answers turned by a match or a let-else' 'let (Ok|Some)\(.*\) = .*else
 count '2a the width and the most of a layout'   'fn (width|most)\(' $code
 count '2b a table fault told again, and refusals written out' 'TableFault::(Count|Memory|Record \{ number \}) => [A-Z]|let \(question, item\)|^ *(Some\(|[A-Za-z:]+ \{ .*=> )?Refusal \{$|=> Refusal \{$' $code
 count '2c zero units and zero sets written out' 'groups: GroupSet \{ bits: 0 \}|^ *GroupSet \{ bits: 0 \}$' $all
-count '2d count, find and add up by number'     'fn [a-z_]*(count_of|count_from|receivable_count|movement_count|act_count|movement_of|movement|receiving|row_from|act_of|act|nth_record)\(' $code
 # 3: loops
 count '3a loops over a range of numbers'        '^ *for [a-z_]+ in .*[^[]\.\.' $all
 count '3b counters and rests kept by hand'      '(count|left|rest|size|filled|len) [-+*/%]= |let mut (left|count|rest|size|filled)\b' $code

@@ -8,7 +8,6 @@ use model::group_set::GroupSet;
 use model::label::Label;
 use model::range::Range;
 use model::state::{Pair, State};
-use model::unit_state::UnitState;
 use model::value::Value;
 use std::test::Fail;
 use systems::System;
@@ -75,13 +74,7 @@ fn make(wide: bool, bits: u8, moves: bool) -> Toy {
 }
 
 fn pair() -> Pair {
-    let unit = UnitState {
-        location: 0,
-        first: 0,
-        second: 0,
-        groups: GroupSet { bits: 0 },
-    };
-    let state = State { units: [unit; 6] };
+    let state = State::default();
     Pair {
         left: state,
         right: state,
