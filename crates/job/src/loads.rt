@@ -2,12 +2,12 @@
 ghost use Rattle.std.specs.Prelude.{◌≡◌, IfOk, None};
 ghost use Rattle.questions.specs.Asking.{first_no, refusal_of};
 ghost use Rattle.rules.specs.Faults.{rule_refusal};
-ghost use Rattle.rules.specs.LinkRules.{meets, links_allow, links_asked, links_of};
-ghost use Rattle.network.specs.Loads.{network_asked, network_refusal, net_in};
-ghost use Rattle.frames.specs.Payloads.{side_bytes, setting_of};
-ghost use Rattle.frames.specs.declared.kind.Kind.TheVariants.{Row as RowKind, Link as LinkKind};
+ghost use Rattle.rules.specs.LinkRules.{meets, links_allow, links_of};
+ghost use Rattle.network.specs.Loads.{network_refusal};
+ghost use Rattle.frames.specs.Payloads.{side_bytes};
+ghost use Rattle.frames.specs.declared.kind.Kind.TheVariants.{Link as LinkKind};
 ghost use Rattle.job.specs.Faults.{side_refusal, job_refusal};
-ghost use Rattle.job.specs.Sides.{tables_asked, side_asked, ruled_meaning, loaded_meaning, side_meaning, side_net};
+ghost use Rattle.job.specs.Sides.{ruled_meaning, loaded_meaning, side_meaning, side_net};
 ghost use Rattle.job.specs.Jobs.{layouts_asked, Loaded};
 
 use crate::fault::{JobFault, SideFault};

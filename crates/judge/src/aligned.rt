@@ -1,10 +1,7 @@
-ghost use Rattle.std.specs.Prelude.{◌≡◌, Some, MatchOption};
-ghost use Rattle.judge.specs.Comparing.{meant, label_on, OneRange};
+ghost use Rattle.std.specs.Prelude.{◌≡◌, MatchOption};
+ghost use Rattle.judge.specs.Comparing.{meant, OneRange};
 
 use crate::comparison::Comparison;
-use model::label::Label;
-use model::state::Pair;
-use questions::Side;
 use systems::System;
 
 /// A comparison of two systems that have one range.
@@ -19,9 +16,7 @@ impl<L: System, R: System> Comparison<'_, L, R> {
     pub(crate) fn aligned(&self) -> Option<Aligned<'_, L, R>>
         ensures { MatchOption result (OneRange (meant L.System.means R.System.means self.now) → ⊥) (λ x. x.comparison.now ≡ self.now) }
     {
-        let left = self.left.range();
-        let right = self.right.range();
-        if left.lo == right.lo && left.hi == right.hi {
+        if self.left.range() == self.right.range() {
             Some(Aligned { comparison: self })
         } else {
             None

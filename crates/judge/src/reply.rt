@@ -1,4 +1,4 @@
-ghost use Rattle.std.specs.Prelude.{◌≡◌, true, ◌<◌, ℤ, Some, None, Decides, MatchOption};
+ghost use Rattle.std.specs.Prelude.{◌≡◌, true, ◌<◌, ℤ, Some, Decides};
 ghost use Rattle.lists.specs.Words.{FirstOf};
 ghost use Rattle.systems.specs.Meaning.{receives, in_range_of};
 ghost use Rattle.judge.specs.Comparing.{meant, label_on};
