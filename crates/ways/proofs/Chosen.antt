@@ -1,15 +1,9 @@
 -- The choices of one unit, by number. Assumes nothing.
-use Rattle.std.proofs.Common.{◌≡◌, ℕ, zero, suc, ◌+◌, ◌-◌, Bool, true, cond, List, [], ◌∷◌, map, length, get_or, Option, sym, refl, ap, ◌∙◌, arith}
-use Rattle.std.proofs.lemmas.List.{length-map}
+use Rattle.std.proofs.Common.{◌≡◌, ℕ, zero, suc, ◌-◌, Bool, true, cond, List, [], ◌∷◌, get_or, Option, sym, refl, ap, ◌∙◌, arith}
 use Rattle.std.specs.Prelude.{unwrap_or}
 use Rattle.std.specs.List.{slice_get}
 use Rattle.ways.specs.declared.way.Choice.{Choice}
-use Rattle.ways.specs.declared.way.Choice.TheVariants.{Stay, Take}
-
-pub count_yes : (b : Bool) (ks : List ℕ) → b ≡ true → 1 + length ks ≡ length (Stay ∷ cond b (map Take ks) [])
-count_yes b ks e =
-    let m : 1 + length ks ≡ suc (length (map Take ks)) = omega (arith, length-map ks Take) in
-    m ∙ ap (λ t. suc (length (cond t (map Take ks) []))) (sym e)
+use Rattle.ways.specs.declared.way.Choice.TheVariants.{Stay}
 
 nth_or_stay : (cs : List Choice) (i : ℕ) → unwrap_or (slice_get cs i) Stay ≡ get_or cs i Stay
 nth_or_stay [] i = refl

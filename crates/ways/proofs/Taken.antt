@@ -1,5 +1,5 @@
 -- The ways of taking one row, by number. Assumes nothing.
-use Rattle.std.proofs.Common.{◌≡◌, ℕ, ◌<◌, true, List, map, length, Some, sym, ap, ◌∙◌, subst}
+use Rattle.std.proofs.Common.{◌≡◌, ℕ, ◌<◌, List, map, length, Some, sym, ap, ◌∙◌, subst}
 use Rattle.std.specs.List.{range_with_len, slice_get}
 use Rattle.model.specs.declared.state.State.{State}
 use Rattle.rows.specs.declared.row.Operand.{Operand}
@@ -13,7 +13,7 @@ use Rattle.lists.specs.Products.{volume, digits}
 use Rattle.rows.specs.Units.{enabled}
 use Rattle.ways.specs.Nets.{Net, row_at, unit_at}
 use Rattle.ways.specs.Ways.{choices, combinations, acts_by}
-use Rattle.lists.proofs.Listed.{length_product, nth_product, length_when, below_when, nth_when}
+use Rattle.lists.proofs.Listed.{length_product, nth_product, below_when, nth_when}
 
 module _ (n : Net) (s : State) (u : ℕ) where
   pub sent_count : (a : Action) (o : Operand) (m : ℕ) → a ≡ Broadcast o → m ≡ volume (map (choices n s u) (range_with_len 0 6)) → m ≡ length (combinations n s u a)
@@ -26,9 +26,6 @@ module _ (n : Net) (s : State) (u : ℕ) where
   sent_nth a o i r e h d = ap (λ x. slice_get (combinations n s u x) i) e ∙ nth_product Stay (map (choices n s u) (range_with_len 0 6)) i (sent_below a o i e h) ∙ ap Some (sym d)
 
   module _ (k : ℕ) (row : Row) (is : row ≡ row_at n k) where
-    pub act_count : (m : ℕ) → true ≡ enabled (unit_at s u) row → m ≡ length (combinations n s u row.action) → m ≡ length (acts_by n s u k)
-    act_count m e h = length_when (enabled (unit_at s u) (row_at n k)) (Act u k) (combinations n s u (row_at n k).action) m (ap (enabled (unit_at s u)) (sym is) ∙ sym e) (h ∙ ap (λ r. length (combinations n s u r.action)) is)
-
     pub act_below : (i : ℕ) → i < length (acts_by n s u k) → i < length (combinations n s u row.action)
     act_below i h = subst (λ r. i < length (combinations n s u r.action)) (sym is) (below_when (enabled (unit_at s u) (row_at n k)) (Act u k) (combinations n s u (row_at n k).action) i h)
 

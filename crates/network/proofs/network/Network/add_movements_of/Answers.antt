@@ -1,6 +1,5 @@
 use Rattle.std.proofs.Common.{◌≡◌, ℕ, ◌+◌, ◌++◌, map, vec_items, filter, sym, ap, ◌∙◌, arith}
 use Rattle.std.specs.List.{range_with_len}
-use Rattle.std.proofs.lemmas.Result.{err_from_is_err_and}
 use Rattle.lists.proofs.Adding.{sifting_yes, sifting_no}
 use Rattle.ways.specs.Nets.{net_of}
 use Rattle.ways.specs.declared.way.Way.TheVariants.{Move}
@@ -26,6 +25,3 @@ returns-after-may_move g c =
       | then-may_move+in_ok-push w ↦ rw w.ways-is (sifting_yes (λ b. may_move (net_of c.args.self.now.table) (g.R.Rule.allowed c.args.self.now.rule) c.args.state.now c.args.unit (set_of b)) (λ b. Move c.args.unit (set_of b)) _ _ _ c.loop-bits.invariant _ _ c.may_move.ensures w.if-may_move.true w.in_ok-push.ensures.items ∙ whole)
       | else-may_move w ↦ rw w.ways-is (sifting_no (λ b. may_move (net_of c.args.self.now.table) (g.R.Rule.allowed c.args.self.now.rule) c.args.state.now c.args.unit (set_of b)) (λ b. Move c.args.unit (set_of b)) _ _ _ c.loop-bits.invariant _ c.may_move.ensures w.if-may_move.false ∙ whole)
     ]
-
-pub returns-in_err-push : goal.returns-in_err-push
-returns-in_err-push g c = let p = err_from_is_err_and c.from_residual.result c.from_residual.ensures.1 in rw p.1 tt

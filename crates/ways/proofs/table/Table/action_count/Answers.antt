@@ -2,5 +2,5 @@ use Rattle.ways.specs.Nets.{net_of}
 use Rattle.ways.proofs.Taken.{sent_count}
 use Rattle.ways.proofs.table.Table.action_count.Goals as goal
 
-pub returns-in-Broadcast : goal.returns-in-Broadcast
-returns-in-Broadcast c = record { is = sent_count (net_of c.args.self.now) c.args.state.now _ _ _ _ c.in-Broadcast.is c.combination_count.ensures.is; few = c.combination_count.ensures.few }
+pub returns-in-Broadcast-clause-is : goal.returns-in-Broadcast-clause-is
+returns-in-Broadcast-clause-is c = sent_count (net_of c.args.self.now) c.args.state.now _ _ _ _ c.in-Broadcast.is c.combination_count.ensures.is

@@ -1,12 +1,8 @@
-use Rattle.std.proofs.Common.{◌<◌, sym, refl, subst}
 use Rattle.lists.proofs.Listed.{picking_some, picking_more, picking_all}
 use Rattle.ways.specs.Nets.{net_of}
 use Rattle.ways.specs.Ways.{choices}
 use Rattle.ways.specs.declared.way.Choice.TheVariants.{Stay}
 use Rattle.ways.proofs.table.Table.combination.Goals as goal
-
-pub loop-unit-init : goal.loop-unit-init
-loop-unit-init c = record { size_is = c.combination_count-size.ensures.is; low = subst (λ n. c.args.number < n) (sym c.combination_count-size.ensures.is) c.requires; long = refl; same = refl }
 
 pub nonzero_div-rest : goal.nonzero_div-rest
 nonzero_div-rest c = picking_some Stay (choices (net_of c.args.self.now) c.args.state.now c.args.sender) 6 _ _ _ _ _ _ c.loop-unit.invariant c.loop-unit-test.true c.choice_count-size.ensures.is c.choice_count-size.ensures.some
