@@ -1,7 +1,7 @@
 -- A list that grows by what a loop adds. Assumes nothing.
-use Rattle.std.proofs.Common.{◌≡◌, ℕ, zero, suc, ◌+◌, ◌≤◌, Bool, true, false, cond, List, [], ◌∷◌, ◌++◌, map, length, take, Some, filter, sym, refl, ap, ◌∙◌, arith}
+use Rattle.std.proofs.Common.{◌≡◌, ℕ, zero, suc, ◌+◌, Bool, true, false, cond, List, [], ◌∷◌, ◌++◌, map, take, Some, filter, sym, refl, ap, ◌∙◌, arith}
 use Rattle.std.specs.List.{range_with_len, flat_map, slice_get}
-use Rattle.std.proofs.lemmas.List.{append-nil, append_assoc, map-append, take_all}
+use Rattle.std.proofs.lemmas.List.{append-nil, append_assoc, map-append}
 use Rattle.std.proofs.lemmas.List.Concat.{flat_map-append}
 use Rattle.std.proofs.lemmas.List.Elements.{filter-append}
 use Rattle.lists.proofs.Listed.{counting_push}
@@ -16,9 +16,6 @@ joined_push f k = ap (flat_map f) (push_0 k) ∙ (flat_map-append f (range_with_
 module _ {Y : Type 0} (f : ℕ → List Y) (k : ℕ) (was now : List Y) (inv : now ≡ was ++ flat_map f (range_with_len 0 k)) where
   pub adding_more : (next : List Y) → next ≡ now ++ f k → next ≡ was ++ flat_map f (range_with_len 0 (k + 1))
   adding_more next e = e ∙ (ap (λ l. l ++ f k) inv ∙ (append_assoc was (flat_map f (range_with_len 0 k)) (f k) ∙ ap (λ l. was ++ l) (sym (joined_push f k))))
-
-  pub adding_all : (m : ℕ) → k ≤ m → m ≤ k → now ≡ was ++ flat_map f (range_with_len 0 m)
-  adding_all m h l = inv ∙ ap (λ n. was ++ flat_map f (range_with_len 0 n)) (let e : k ≡ m = omega arith in e)
 
 kept_push : {Y : Type 0} (p : ℕ → Bool) (f : ℕ → Y) (k : ℕ) (b : Bool) → p k ≡ b → map f (filter p (range_with_len 0 (k + 1))) ≡ map f (filter p (range_with_len 0 k)) ++ cond b (f k ∷ []) []
 kept_push p f k b e =
@@ -40,13 +37,7 @@ module _ {Y : Type 0} (p : ℕ → Bool) (f : ℕ → Y) (k : ℕ) (was now : Li
   pub sifting_no : (b : Bool) → b ≡ p k → b ≡ false → now ≡ was ++ map f (filter p (range_with_len 0 (k + 1)))
   sifting_no b q e = inv ∙ ap (λ l. was ++ l) (sym (kept_push p f k false (sym q ∙ e) ∙ append-nil (map f (filter p (range_with_len 0 k)))))
 
-  pub sifting_all : (m : ℕ) → k ≤ m → m ≤ k → now ≡ was ++ map f (filter p (range_with_len 0 m))
-  sifting_all m h l = inv ∙ ap (λ n. was ++ map f (filter p (range_with_len 0 n))) (let e : k ≡ m = omega arith in e)
-
 -- a loop that adds the elements of xs by number
 module _ {Y : Type 0} (xs : List Y) (k : ℕ) (was now : List Y) (inv : now ≡ was ++ take k xs) where
   pub copying_more : (x : Y) (next : List Y) → slice_get xs k ≡ Some x → next ≡ now ++ (x ∷ []) → next ≡ was ++ take (k + 1) xs
   copying_more x next e n = n ∙ (ap (λ l. l ++ (x ∷ [])) inv ∙ (append_assoc was (take k xs) (x ∷ []) ∙ ap (λ l. was ++ l) (sym (take_nth xs k x e))))
-
-  pub copying_all : length xs ≤ k → now ≡ was ++ xs
-  copying_all l = inv ∙ ap (λ ys. was ++ ys) (take_all k xs l)

@@ -16,9 +16,6 @@ pub nth_append_add : {X : Type 0} (xs ys : List X) (i : ℕ) → slice_get (xs +
 nth_append_add [] ys i = ap (slice_get ys) (omega arith)
 nth_append_add (x ∷ xs) ys i = ap (slice_get (x ∷ (xs ++ ys))) (let e : suc (length xs) + i ≡ suc (length xs + i) = omega arith in e) ∙ nth_append_add xs ys i
 
-pub nth_append_right : {X : Type 0} (xs ys : List X) (i : ℕ) → length xs ≤ i → slice_get (xs ++ ys) i ≡ slice_get ys (i - length xs)
-nth_append_right xs ys i h = ap (slice_get (xs ++ ys)) (let e : i ≡ length xs + (i - length xs) = omega arith in e) ∙ nth_append_add xs ys (i - length xs)
-
 -- numbers from k on, below m
 pub counting_more : (k m : ℕ) → k < m → range_with_len k (m - k) ≡ k ∷ range_with_len (k + 1) (m - (k + 1))
 counting_more k m h = ap (range_with_len k) (let e : m - k ≡ suc (m - (k + 1)) = omega arith in e)
@@ -142,10 +139,6 @@ module _ {X : Type 0} (d : X) (f : ℕ → List X) (m i j size rest c : ℕ) (ou
       ∙ ap (λ ks. take j out ++ digits d (map f ks) rest) (sym (counting_none j m h)) ∙ p.same
 
 -- a list that is there only if b
-module _ {X Y : Type 0} (b : Bool) (f : X → Y) (xs : List X) where
-  pub length_when : (n : ℕ) → b ≡ true → n ≡ length xs → n ≡ length (cond b (map f xs) [])
-  length_when n t e = e ∙ sym (length-map xs f) ∙ ap (λ c. length (cond c (map f xs) [])) (sym t)
-
 pub below_when : {X Y : Type 0} (b : Bool) (f : X → Y) (xs : List X) (i : ℕ) → i < length (cond b (map f xs) []) → i < length xs
 below_when true f xs i h = subst (λ n. i < n) (length-map xs f) h
 below_when false f xs i h = absurd (omega arith)
