@@ -1,7 +1,7 @@
 -- Loops over a list that look only at the elements that pass a test. Assumes nothing.
-use Rattle.std.proofs.Common.{◌≡◌, ℕ, zero, suc, ◌+◌, ◌-◌, ◌≤◌, Bool, true, false, cond, List, [], ◌∷◌, ◌++◌, map, length, take, drop, Some, None, filter, Option, sym, refl, ap, ◌∙◌, add-one, arith}
+use Rattle.std.proofs.Common.{◌≡◌, ℕ, zero, suc, ◌+◌, ◌-◌, Bool, true, false, cond, List, [], ◌∷◌, ◌++◌, map, length, take, drop, Some, filter, Option, sym, refl, ap, ◌∙◌, add-one, arith}
 use Rattle.std.specs.List.{slice_get}
-use Rattle.std.proofs.lemmas.List.{append-nil, length-append, map-append, take_all, drop_all}
+use Rattle.std.proofs.lemmas.List.{append-nil, length-append, map-append}
 use Rattle.std.proofs.lemmas.List.Elements.{filter-append}
 use Rattle.lists.specs.Words.{Stands}
 use Rattle.lists.proofs.Places.{some_none, drop_nth}
@@ -57,13 +57,3 @@ module _ {X : Type 0} (p : X → Bool) (xs : List X) where
 
       pub seek_no : p x ≡ false → slice_get (filter p (drop (k + 1) xs)) left ≡ goal
       seek_no e = sym (ap (λ ys. slice_get ys left) (rest false e)) ∙ inv
-
-  module _ (k : ℕ) (all : length xs ≤ k) where
-    pub count_all : (n : ℕ) → n ≡ length (filter p (take k xs)) → n ≡ length (filter p xs)
-    count_all n inv = inv ∙ ap (λ ys. length (filter p ys)) (take_all k xs all)
-
-    pub push_all : {Y : Type 0} (f : X → Y) (ys : List Y) → ys ≡ map f (filter p (take k xs)) → ys ≡ map f (filter p xs)
-    push_all f ys inv = inv ∙ ap (λ zs. map f (filter p zs)) (take_all k xs all)
-
-    pub seek_none : (left : ℕ) (goal : Option X) → slice_get (filter p (drop k xs)) left ≡ goal → None ≡ goal
-    seek_none left goal inv = sym (ap (λ ys. slice_get (filter p ys) left) (drop_all k xs all)) ∙ inv

@@ -2,11 +2,7 @@
 use Rattle.std.proofs.Common.{◌≡◌, ℕ, zero, suc, ◌+◌, ◌<◌, Bool, true, false, cond, List, [], ◌∷◌, ◌++◌, map, filter, refl, inl, inr, arith}
 use Rattle.std.specs.List.{range_with_len, flat_map, AllByRecursion}
 use Rattle.std.proofs.ByRecursion.{All-append, all_kept_by, All-weaker}
-use Rattle.lists.specs.Products.{product, Sorted, Lexicographic, In, head, tail}
-
-pub all_from_in : {X : Type 0} (P : X → Type 0) (xs : List X) → ((x : X) → In x xs → P x) → AllByRecursion P xs
-all_from_in P [] h = tt
-all_from_in P (x ∷ xs) h = (h x (head refl), all_from_in P xs (λ y m. h y (tail m)))
+use Rattle.lists.specs.Products.{product, Sorted, Lexicographic}
 
 pub sorted_append : {X : Type 0} (R : X → X → Type 0) (xs ys : List X) → Sorted R xs → Sorted R ys → AllByRecursion (λ x. AllByRecursion (R x) ys) xs → Sorted R (xs ++ ys)
 sorted_append R [] ys p q h = q
@@ -39,10 +35,6 @@ sorted_counting a (suc n) = (counting_above a (a + 1) n (omega arith), sorted_co
 pub sorted_when : {X : Type 0} (R : X → X → Type 0) (b : Bool) (xs : List X) → Sorted R xs → Sorted R (cond b xs [])
 sorted_when R true xs s = s
 sorted_when R false xs s = tt
-
-pub all_joined_on : {X Y : Type 0} (P : X → Type 0) (Q : Y → Type 0) (f : X → List Y) (xs : List X) → ((x : X) → P x → AllByRecursion Q (f x)) → AllByRecursion P xs → AllByRecursion Q (flat_map f xs)
-all_joined_on P Q f [] h a = tt
-all_joined_on P Q f (x ∷ xs) h a = All-append Q (f x) (flat_map f xs) (h x a.0) (all_joined_on P Q f xs h a.1)
 
 pub all_cross : {X : Type 0} (P P' : X → Type 0) (Q : X → X → Type 0) (xs ys : List X) → ((x y : X) → P x → P' y → Q x y) → AllByRecursion P xs → AllByRecursion P' ys → AllByRecursion (λ x. AllByRecursion (Q x) ys) xs
 all_cross P P' Q [] ys h a b = tt

@@ -1,5 +1,5 @@
 -- Facts on what stands at a place of a list. Assumes nothing.
-use Rattle.std.proofs.Common.{◌≡◌, ℕ, zero, suc, ◌<◌, ◌≤◌, List, [], ◌∷◌, length, drop, Some, None, Option, refl, arith}
+use Rattle.std.proofs.Common.{◌≡◌, ℕ, zero, suc, ◌<◌, List, [], ◌∷◌, length, drop, Some, None, Option, refl, arith}
 use Rattle.std.specs.List.{slice_get}
 
 pub some_same : {X : Type 0} (o : Option X) (x y : X) → o ≡ Some x → o ≡ Some y → x ≡ y
@@ -17,11 +17,6 @@ pub nth_here : {X : Type 0} (xs : List X) (k : ℕ) → k < length xs → (x : X
 nth_here [] k h = absurd (omega arith)
 nth_here (y ∷ ys) zero h = (y, refl)
 nth_here (y ∷ ys) (suc k) h = nth_here ys k (omega arith)
-
-pub nth_none : {X : Type 0} (xs : List X) (k : ℕ) → slice_get xs k ≡ None → length xs ≤ k
-nth_none [] k e = omega arith
-nth_none (y ∷ ys) zero e = absurd (some_none (slice_get (y ∷ ys) zero) y refl e)
-nth_none (y ∷ ys) (suc k) e = let h : length ys ≤ k = nth_none ys k e in omega arith
 
 pub drop_nth : {X : Type 0} (xs : List X) (k : ℕ) (x : X) → slice_get xs k ≡ Some x → drop k xs ≡ x ∷ drop (suc k) xs
 drop_nth [] k x e = absurd (some_none _ _ e refl)

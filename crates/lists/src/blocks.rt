@@ -5,19 +5,20 @@ ghost use Rattle.lists.specs.Blocks.{Tells, Located};
 /// The closure tells how long a block is.
 pub fn locate<F: Fn(usize) -> usize>(
     blocks: usize,
-    long: F,
+    length_of: F,
     number: usize,
 ) -> Option<(usize, usize)>
-    requires { F.IsAlwaysCallable long }
-    ensures { (lengths : ℕ → ℕ) → Tells (F.post long) blocks lengths → Located lengths blocks number result }
+    requires { F.IsAlwaysCallable length_of }
+    ensures { (lengths : ℕ → ℕ) → Tells (F.post length_of) blocks lengths → Located lengths blocks number result }
 {
+    // The one place where a number is taken apart: every list of blocks is asked through it.
     let mut left = number;
     for block in 0..blocks {
-        let size = long(block);
-        if left < size {
+        let length = length_of(block);
+        if left < length {
             return Some((block, left));
         }
-        left -= size;
+        left -= length;
     }
     None
 }

@@ -29,7 +29,7 @@ impl<R: Rule> Network<R> {
         ensures refuses { refusal_of network_refusal result ≡ first_no (network_asked range.lo range.hi units rows.now) }
         ensures loads { IfOk result (λ n. network_meaning (net_of n.table) (R.Rule.allowed n.rule) ≡ network_meaning (net_in range.lo range.hi free units rows.now) (R.Rule.allowed rule)) }
     {
-        if units < 1 || UNITS < units {
+        if !(1..=UNITS).contains(&units) {
             return Err(NetworkFault::Units);
         }
         let program = Program::load(heap, range, rows)?;

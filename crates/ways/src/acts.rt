@@ -21,15 +21,8 @@ impl Table {
             Action::Silent => 1,
             Action::Broadcast(_) => self.combination_count(state, unit),
             Action::Receive(_) => {
-                if unit_at(state, unit)
-                    .groups
-                    .part_within(self.free)
-                    .is_empty()
-                {
-                    0
-                } else {
-                    1
-                }
+                let heard = unit_at(state, unit).groups.part_within(self.free);
+                usize::from(!heard.is_empty())
             }
         }
     }
@@ -46,8 +39,7 @@ impl Table {
     {
         match action {
             Action::Broadcast(_) => self.combination(state, unit, number),
-            Action::Silent => [Choice::Stay; UNITS],
-            Action::Receive(_) => [Choice::Stay; UNITS],
+            Action::Silent | Action::Receive(_) => [Choice::Stay; UNITS],
         }
     }
 

@@ -26,7 +26,7 @@ impl Table {
         requires { number < volume (map (choices (net_of self.now) state.now sender) (range_with_len 0 6)) }
         ensures { result ≡ digits Stay (map (choices (net_of self.now) state.now sender) (range_with_len 0 6)) number }
     {
-        // Each digit is taken from what the slower ones left.
+        // A digit needs the rest that the slower ones left, which a chain cannot carry along.
         let mut chosen = [Choice::Stay; UNITS];
         let mut rest = number;
         let mut size = self.combination_count(state, sender);

@@ -49,14 +49,10 @@ impl Table {
     fn listed(&self, state: &State, way: &Way, value: Value) -> Listed
         ensures { result ≡ listed_of (net_of self.now) state.now value way.now }
     {
-        let landing = if self.program.range.holds(value) {
-            Some(self.landing_of(state, way, value))
-        } else {
-            None
-        };
+        let is_in_range = self.program.range.holds(value);
         Listed {
             label: self.label_of(state, way),
-            landing,
+            landing: is_in_range.then(|| self.landing_of(state, way, value)),
         }
     }
 

@@ -4,5 +4,5 @@ use Rattle.lists.proofs.blocks.locate.Goals as goal
 
 pub loop-block-preserved : goal.loop-block-preserved
 loop-block-preserved g c = λ lengths tells.
-    let e : c.long-size.result ≡ lengths c.loop-block.block = tells _ _ c.loop-block-test.true c.long-size.ensures in
-    omega (arith, e, begin_more lengths c.loop-block.block, c.loop-block.invariant lengths tells, c.if-left-size.false)
+    let e : c.length_of-length.result ≡ lengths c.loop-block.block = tells _ _ c.loop-block-test.true c.length_of-length.ensures in
+    omega (arith, e, begin_more lengths c.loop-block.block, c.loop-block.invariant lengths tells, c.if-left-length.false)
