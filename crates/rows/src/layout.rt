@@ -7,53 +7,55 @@ use model::range::Range;
 use model::value::value_of;
 use tables::Layout;
 
-/// The operand of a kind and a byte.
-fn read_operand(range: &Range, kind: u8, byte: u8) -> Option<Operand>
-    ensures { result ≡ parse_operand range.now.lo range.now.hi kind byte }
-{
-    match (kind, byte) {
-        (0, 0) => Some(Operand::First),
-        (1, 0) => Some(Operand::Second),
-        (2, _) => {
-            let value = value_of(byte);
-            range.holds(value).then_some(Operand::Constant(value))
-        }
-        _ => None,
-    }
-}
-
-fn read_guard(range: &Range, kind: u8, a: u8, b: u8, c: u8, d: u8) -> Option<Guard>
-    ensures { result ≡ parse_guard range.now.lo range.now.hi kind a b c d }
-{
-    if kind == 0 {
-        return (a == 0 && b == 0 && c == 0 && d == 0).then_some(Guard::None);
-    }
-    let x = read_operand(range, a, b)?;
-    let y = read_operand(range, c, d)?;
-    match kind {
-        1 => Some(Guard::Equal(x, y)),
-        2 => Some(Guard::Differs(x, y)),
-        3 => Some(Guard::Less(x, y)),
-        _ => None,
-    }
-}
-
-fn read_action(range: &Range, kind: u8, a: u8, b: u8) -> Option<Action>
-    ensures { result ≡ parse_action range.now.lo range.now.hi kind a b }
-{
-    match (kind, a, b) {
-        (0, 0, 0) => Some(Action::Silent),
-        (1, _, _) => Some(Action::Broadcast(read_operand(range, a, b)?)),
-        (2, 0, 0) => Some(Action::Receive(Register::First)),
-        (2, 1, 0) => Some(Action::Receive(Register::Second)),
-        _ => None,
-    }
-}
-
 /// Rows of 16 bytes, at most 64 of them, with their constants in the range.
 #[derive(Clone, Copy, Debug)]
 pub struct RowLayout {
     pub range: Range,
+}
+
+impl RowLayout {
+    /// The operand of a kind and a byte. Kinds are bytes here, since this reads the layout; the enum is what it answers.
+    fn operand(&self, kind: u8, byte: u8) -> Option<Operand>
+        ensures { result ≡ parse_operand self.now.range.lo self.now.range.hi kind byte }
+    {
+        match (kind, byte) {
+            (0, 0) => Some(Operand::First),
+            (1, 0) => Some(Operand::Second),
+            (2, _) => {
+                let value = value_of(byte);
+                self.range.holds(value).then_some(Operand::Constant(value))
+            }
+            _ => None,
+        }
+    }
+
+    fn guard(&self, kind: u8, a: u8, b: u8, c: u8, d: u8) -> Option<Guard>
+        ensures { result ≡ parse_guard self.now.range.lo self.now.range.hi kind a b c d }
+    {
+        if kind == 0 {
+            return (a == 0 && b == 0 && c == 0 && d == 0).then_some(Guard::None);
+        }
+        let x = self.operand(a, b)?;
+        let y = self.operand(c, d)?;
+        match kind {
+            1 => Some(Guard::Equal(x, y)),
+            2 => Some(Guard::Differs(x, y)),
+            3 => Some(Guard::Less(x, y)),
+            _ => None,
+        }
+    }
+
+    fn action(&self, kind: u8, a: u8, b: u8) -> Option<Action>
+        ensures { result ≡ parse_action self.now.range.lo self.now.range.hi kind a b }
+    {
+        match (kind, a, b) {
+            (0, 0, 0) => Some(Action::Silent),
+            (1, _, _) => Some(Action::Broadcast(self.operand(a, b)?)),
+            (2, 0, 0) => Some(Action::Receive(Register::First)),
+            (2, 1, 0) => Some(Action::Receive(Register::Second)),
+            _ => None,
+        }
+    }
 }
 
 impl Layout<Row> for RowLayout {
@@ -96,11 +98,11 @@ impl Layout<Row> for RowLayout {
         }
         Some(Row {
             from: *from,
-            guard: read_guard(&self.range, *guard, *a, *b, *c, *d)?,
-            action: read_action(&self.range, *action, *e, *f)?,
+            guard: self.guard(*guard, *a, *b, *c, *d)?,
+            action: self.action(*action, *e, *f)?,
             to: *to,
-            first: read_operand(&self.range, *first, *g)?,
-            second: read_operand(&self.range, *second, *h)?,
+            first: self.operand(*first, *g)?,
+            second: self.operand(*second, *h)?,
         })
     }
 }

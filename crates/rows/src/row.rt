@@ -8,7 +8,8 @@ pub enum Operand {
     Constant(Value),
 }
 
-/// When a row is enabled at its location. The first operand is compared with the second.
+/// When a row is enabled at its location. The first operand is compared with the second. `None` stands here and not an
+/// `Option` of a comparison: it is a guard like the others, which always holds.
 #[derive(Clone, Copy, Debug)]
 pub enum Guard {
     None,

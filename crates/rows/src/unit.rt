@@ -37,8 +37,7 @@ impl Action {
         ensures { result ≡ filled unit.now self value }
     {
         match self {
-            Action::Silent => *unit,
-            Action::Broadcast(_) => *unit,
+            Action::Silent | Action::Broadcast(_) => *unit,
             Action::Receive(Register::First) => UnitState {
                 first: value,
                 ..*unit
@@ -65,8 +64,7 @@ impl Row {
     {
         match self.action {
             Action::Receive(_) => self.is_enabled(unit),
-            Action::Silent => false,
-            Action::Broadcast(_) => false,
+            Action::Silent | Action::Broadcast(_) => false,
         }
     }
 
