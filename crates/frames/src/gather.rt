@@ -82,6 +82,7 @@ pub fn payloads(bytes: &[u8], kind: Kind, side: Side) -> Option<ArrayVec<u8, ROO
 fn pair_in(item: &[u8; RECORD]) -> Pair
     ensures { result ≡ pair_of (payload_of PairKind item.now) }
 {
+    // cannot fail: the payload of a pair has the 48 bytes that a pair has
     Pair::from_bytes(payload(item, Kind::Pair).try_into().unwrap())
 }
 
