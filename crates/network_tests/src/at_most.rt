@@ -4,6 +4,7 @@ use model::placement::Placement;
 use rules::rule::Rule;
 
 /// No unit sits on more groups than the limit.
+// A rule of this crate's own, as a caller may write one: that it says what a tuner says is for the tests to compare.
 #[derive(Clone, Copy)]
 pub struct AtMost {
     pub limit: u32,

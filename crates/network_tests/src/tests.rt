@@ -7,6 +7,7 @@ use model::unit_state::UnitState;
 use model::value::Value;
 use network::fault::NetworkFault;
 use network::network::Network;
+use questions::Refusal;
 use rows::row::{Guard, Operand};
 use rules::fault::RuleFault;
 use rules::link::NoLinkKind;
@@ -38,14 +39,14 @@ fn unit(location: u8, first: Value, groups: u8) -> UnitState {
 }
 
 fn one(only: UnitState) -> State {
-    let none = unit(0, 0, 0);
+    let none = UnitState::default();
     State {
         units: [only, none, none, none, none, none],
     }
 }
 
 fn two(first: UnitState, second: UnitState) -> State {
-    let none = unit(0, 0, 0);
+    let none = UnitState::default();
     State {
         units: [first, second, none, none, none, none],
     }
@@ -64,13 +65,7 @@ fn is_step(
     value: Value,
     to: &State,
 ) -> bool {
-    match (
-        network.label(state, step),
-        network.landing(state, step, value),
-    ) {
-        (Some(label), Some(landing)) => label == expected && landing == *to,
-        _ => false,
-    }
+    network.label(state, step) == Some(expected) && network.landing(state, step, value) == Some(*to)
 }
 
 #[test]
@@ -168,13 +163,9 @@ fn is_refused(
     item: usize,
 ) -> Result<bool, Fail> {
     let range = Range::new(-2, 2)?;
-    match Network::load(heap, range, FREE, units, rows, AtMost { limit: 1 }) {
-        Ok(_network) => Ok(false),
-        Err(fault) => match fault.refusal() {
-            Some(refusal) => Ok(refusal.question == question && refusal.item == item),
-            None => Ok(false),
-        },
-    }
+    let network = Network::load(heap, range, FREE, units, rows, AtMost { limit: 1 });
+    let refusal = network.err().and_then(|fault| fault.refusal());
+    Ok(refusal == Some(Refusal::of(question, item)))
 }
 
 #[test]
