@@ -1,25 +1,21 @@
-use Rattle.std.proofs.Common.{◌+◌, ◌*◌, ◌≤◌, length, sym, ◌∙◌, arith, rules, tests}
+use Rattle.std.proofs.Common.{◌+◌, ◌*◌, length, sym, ◌∙◌, arith, rules, tests}
 use Rattle.std.specs.List.{range_with_len}
-use Rattle.std.proofs.lemmas.List.FromFn.{length-range_with_len}
 use Rattle.std.proofs.lemmas.List.Concat.{length-flat_map}
 use Rattle.std.proofs.lemmas.Iterator.{YieldsList-from_range, YieldsList-from_map}
-use Rattle.std.proofs.lemmas.Iterator.Adapters.{fits_from_length, at_most_from_yields_List}
 use Rattle.std.proofs.lemmas.Iterator.Consumers.{sum_by_from_yields_List}
 use Rattle.ways.specs.Nets.{net_of}
 use Rattle.network.specs.Meanings.{movements_of}
+use Rattle.ways.proofs.Summed.{sum_below}
 use Rattle.network.proofs.network.Network.movement_count.Goals as goal
 
 pub sum-requires-clause-fits : goal.sum-requires-clause-fits
-sum-requires-clause-fits g c =
-    let few : length (range_with_len 0 c.args.self.now.table.units) ≤ 6 = omega (arith, length-range_with_len 0 c.args.self.now.table.units) in
-    fits_from_length _ _ 6 _ (at_most_from_yields_List (YieldsList-from_range 0 c.args.self.now.table.units c.args.self.now.table.units (cc) (search rules)) few) c.map.ensures.closure (omega arith) (λ x r q k. search (rules, tests))
+sum-requires-clause-fits g c = sum_below _ _ c.args.self.now.table.units 6 (omega arith) (cc) c.map.ensures.closure _ (omega arith) (λ x r q k. search (rules, tests))
 
 pub returns-clause-few : goal.returns-clause-few
 returns-clause-few g c =
-    let few : length (range_with_len 0 c.args.self.now.table.units) ≤ 6 = omega (arith, length-range_with_len 0 c.args.self.now.table.units) in
     let w = c.sum.ensures.runs tt in
-    let l = fits_from_length _ _ 6 (6 * 256 + 1) (at_most_from_yields_List (YieldsList-from_range 0 c.args.self.now.table.units c.args.self.now.table.units (cc) (search rules)) few) c.map.ensures.closure (omega arith) (λ x r q k. search (rules, tests)) w.0 w.0.seen w.1 in
-    omega (arith, l, w.3)
+    let below = sum_below _ _ c.args.self.now.table.units 6 (omega arith) (cc) c.map.ensures.closure (6 * 256 + 1) (omega arith) (λ x r q k. search (rules, tests)) w.0 w.0.seen w.1 in
+    omega (arith, below, w.3)
 
 pub returns-clause-is : goal.returns-clause-is
 returns-clause-is g c =
