@@ -7,6 +7,7 @@ use crate::unit_state::UnitState;
 use crate::value::{byte_of, value_of};
 use std::array::from_fn;
 
+// The conversions have names, as `from_le_bytes` has, since they speak of the layout's bytes.
 impl UnitState {
     /// The unit state in four bytes: location, first register, second register, group set.
     pub fn from_bytes(bytes: [u8; 4]) -> UnitState
@@ -35,6 +36,7 @@ impl UnitState {
 }
 
 /// The unit with the number `k` among those whose bytes stand one after the other.
+// Where a unit stands among the bytes is the layout, so it is said by the number of its first byte.
 fn read_unit(bytes: &[u8], k: usize) -> UnitState
     requires { 4 * k + 4 ≤ length bytes.now }
     ensures is { result ≡ unit_of (take 4 (drop (4 * k) bytes.now)) }

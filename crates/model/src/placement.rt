@@ -4,6 +4,7 @@ use crate::group_set::GroupSet;
 use crate::unit_state::UNITS;
 
 /// A placement: 1 to 6 units with their group sets. The slots past the last unit say nothing.
+// An array with a count: a rule is asked in judging, which asks for no memory.
 #[derive(Clone, Copy, Debug)]
 pub struct Placement {
     pub units: usize,

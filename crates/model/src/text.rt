@@ -8,6 +8,7 @@ use std::fmt;
 impl fmt::Display for GroupSet {
     fn fmt<W: fmt::Write>(&self, f: &mut fmt::Formatter<W>) -> fmt::Result {
         write!(f, "{{")?;
+        // The groups are the bits that are set: there is no collection of them to print.
         let mut separator = "";
         for group in 0..8u8 {
             if (self.bits >> group) & 1 == 1 {

@@ -10,7 +10,7 @@ use tables::TableFault;
 /// Why a network is not loaded.
 #[derive(Clone, Copy, PartialEq, Eq, Debug)]
 pub enum NetworkFault {
-    /// There are not 1 to 6 units.
+    /// There are not 1 to 6 units. A placement has a fault of its own for that, since it has no other.
     Units,
     /// The table of its rows is not loaded.
     Rows(TableFault),

@@ -65,6 +65,7 @@ impl<R: Rule> Network<R> {
         self.movement_of(state, unit, left)
     }
 
+    // A loop, since each push may want memory.
     fn add_movements_of(
         &self,
         state: &State,

@@ -75,6 +75,7 @@ impl<R: Rule> System for Network<R> {
         }
     }
 
+    // Step numbers have 64 bits, and the library counts in `usize`.
     fn step_count(&self, state: &State) -> u64 {
         if self.is_state_lawful(state) {
             (self.movement_count(state) + self.table.act_count(state)) as u64

@@ -56,6 +56,7 @@ impl Error for NoSide {}
 
 /// What a no says: the number of its question, and what goes with it. The side is `Left` and the numbers are 0 where the
 /// question has none.
+// The question is a number since a verdict's bytes are written from this; the faults that stand for it are enums.
 #[derive(Clone, Copy, PartialEq, Eq, Debug)]
 pub struct Refusal {
     pub question: u8,

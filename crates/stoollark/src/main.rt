@@ -6,6 +6,7 @@ use job::outcome::{ENOUGH, verdict};
 use std::io::Write;
 
 fn main(rt: HostRuntime) -> anyhow::Result<()> {
+    // As much as decides the verdict, without asking for memory.
     let mut bytes = [0; ENOUGH];
     let count = fill(&mut rt.stdin(), &mut bytes)?;
     rt.stdout()

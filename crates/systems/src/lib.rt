@@ -47,6 +47,7 @@ pub trait System {
         ensures { IfOk result (λ v. v.items ≡ listing (means self.now) state.now value) }
     {
         let mut steps = Vec::new(heap);
+        // A step is asked for by its number, and the push may want memory.
         for step in 0..self.step_count(state) {
             if let Some(label) = self.label(state, step) {
                 let landing = self.landing(state, step, value);

@@ -10,6 +10,7 @@ use model::value::Value;
 use std::alloc::{AllocError, Global};
 use systems::listed::Listed;
 
+// Loops, since each push may want memory; a number is itself what is asked for.
 impl Table {
     fn add_acts_by(
         &self,
