@@ -83,26 +83,27 @@ keeps_on : (c : Compared) → Keeps c.left → Keeps c.right → (side : Side) �
 keeps_on c l r Left = l
 keeps_on c l r Right = r
 
--- what a test of landings tells of a reply, once both labels are known and equal; `opp` is the opposite side as the code has it
-module _ (c : Compared) (side opp : Side) (p : Pair) (i j : ℕ) (k l : Label) (b : Bool) where
-  given_label : opp ≡ opposed side → Some l ≡ label_on opp c p j → label_on (opposed side) c p j ≡ Some l
-  given_label o e = ap (λ s. label_on s c p j) (sym o) ∙ sym e
+-- what a test of landings tells of a reply, once both steps are known to have the label k; `opp` is the opposite side as the
+-- code has it
+module _ (c : Compared) (side opp : Side) (p : Pair) (i j : ℕ) (k : Label) (b : Bool) where
+  given_label : opp ≡ opposed side → label_on opp c p j ≡ Some k → label_on (opposed side) c p j ≡ Some k
+  given_label o e = ap (λ s. label_on s c p j) (sym o) ∙ e
 
-  pub reply_each : OneRange c → opp ≡ opposed side → label_on side c p i ≡ Some k → Some l ≡ label_on opp c p j → k ≡ l
+  pub reply_each : OneRange c → opp ≡ opposed side → label_on side c p i ≡ Some k → label_on opp c p j ≡ Some k
       → Decides b ((v : ℤ) → in_range_of c.left v ≡ true → LandsAt c side p i j v) → Decides b (Reply c side p i j)
-  reply_each one o ek el same d =
+  reply_each one o ek el d =
       let x = label_some (slice_get (steps_on side c p) i) k ek in
-      let y = label_some (slice_get (steps_on (opposed side) c p) j) l (given_label o el) in
-      decides_reply c one side p i j x.0 y.0 x.1 y.1 b (x.2 ∙ same ∙ sym y.2)
+      let y = label_some (slice_get (steps_on (opposed side) c p) j) k (given_label o el) in
+      decides_reply c one side p i j x.0 y.0 x.1 y.1 b (x.2 ∙ sym y.2)
       (decides_each c one side p i j x.0 y.0 x.1 y.1 b d)
 
-  pub reply_one : (u : ℤ) → OneRange c → Keeps c.left → Keeps c.right → opp ≡ opposed side → label_on side c p i ≡ Some k → Some l ≡ label_on opp c p j → k ≡ l
+  pub reply_one : (u : ℤ) → OneRange c → Keeps c.left → Keeps c.right → opp ≡ opposed side → label_on side c p i ≡ Some k → label_on opp c p j ≡ Some k
       → receives k ≡ false → u ≡ c.left.lo → Decides b (LandsAt c side p i j u) → Decides b (Reply c side p i j)
-  reply_one u one keeps-left keeps-right o ek el same quiet low d =
+  reply_one u one keeps-left keeps-right o ek el quiet low d =
       let x = label_some (slice_get (steps_on side c p) i) k ek in
-      let y = label_some (slice_get (steps_on (opposed side) c p) j) l (given_label o el) in
+      let y = label_some (slice_get (steps_on (opposed side) c p) j) k (given_label o el) in
       let ordered = keeps-left.ordered in
       let within = in_range_lem c.left.lo c.left.hi u (omega (arith, ints)) (omega (arith, ints)) in
-      let alike = x.2 ∙ same ∙ sym y.2 in
+      let alike = x.2 ∙ sym y.2 in
       decides_reply c one side p i j x.0 y.0 x.1 y.1 b alike
       (decides_one c one side p i j x.0 y.0 x.1 y.1 (keeps_on c keeps-left keeps-right side) (keeps_on c keeps-left keeps-right (opposed side)) (ap receives x.2 ∙ quiet) alike b u within d)

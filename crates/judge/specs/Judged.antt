@@ -1,5 +1,6 @@
 -- The judge: the first no among its questions, and what a pass tells.
-use Rattle.std.specs.Prelude.{◌≡◌, ℕ, List, ◌∷◌, ◌++◌, length, is_ok, IfOk, Some, Decides, Option, Result, nat_le}
+use Rattle.std.specs.Prelude.{◌≡◌, ℕ, List, ◌∷◌, ◌++◌, length, is_ok, IfOk, Some, Decides, Option, Result, nat_le, codes}
+use Rattle.std.specs.Fmt.{decimal}
 use Rattle.questions.specs.Asking.{Question, put, ask, numbered, restated, first_no, refusal_of}
 use Rattle.questions.specs.declared.Refusal.{Refusal}
 use Rattle.questions.specs.declared.Side.{Side}
@@ -48,6 +49,16 @@ judge_refusal (RightUnlawful k) = Some (say 13 Right k 0)
 judge_refusal (Shown k) = Some (say 14 Left k 0)
 judge_refusal (LeftStep k i) = Some (say 15 Left k i)
 judge_refusal (RightStep k i) = Some (say 16 Right k i)
+
+-- what a fault is called
+abbrev pub fault_text : Fault → List ℕ
+fault_text Ranges = codes "the systems have different ranges"
+fault_text TooMany = codes "the relation has too many pairs"
+fault_text (LeftUnlawful k) = codes "the left state of pair " ++ decimal k ++ codes " is not lawful"
+fault_text (RightUnlawful k) = codes "the right state of pair " ++ decimal k ++ codes " is not lawful"
+fault_text (Shown k) = codes "the states of pair " ++ decimal k ++ codes " show different sets"
+fault_text (LeftStep k i) = codes "step " ++ decimal i ++ (codes " of the left state of pair " ++ decimal k ++ codes " has no reply")
+fault_text (RightStep k i) = codes "step " ++ decimal i ++ (codes " of the right state of pair " ++ decimal k ++ codes " has no reply")
 
 -- the judge refuses with the first no, a pass has the count of records, and exactly the bisimulations pass
 pub record Judged (c : Compared) (r : Result Pass Fault) : Type 0 where

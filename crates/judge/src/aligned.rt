@@ -16,6 +16,7 @@ impl<L: System, R: System> Comparison<'_, L, R> {
     pub(crate) fn aligned(&self) -> Option<Aligned<'_, L, R>>
         ensures { MatchOption result (OneRange (meant L.System.means R.System.means self.now) → ⊥) (λ x. x.comparison.now ≡ self.now) }
     {
+        // no `then_some`: the ghost field holds in this branch alone
         if self.left.range() == self.right.range() {
             Some(Aligned { comparison: self })
         } else {

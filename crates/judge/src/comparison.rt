@@ -15,6 +15,7 @@ pub struct Comparison<'a, L, R> {
     pub relation: &'a [Pair],
 }
 
+// A side and a pair are of other crates, to which an opposite side means nothing: so functions here, and no methods there.
 pub(crate) fn opposite(side: Side) -> Side
     ensures { result ≡ opposed side }
 {
@@ -40,7 +41,8 @@ pub(crate) fn pair_from(side: Side, own: State, other: State) -> Pair
     }
 }
 
-// The two systems are of two types, so each question to the system on a side is put by a match on the side.
+// The two systems are of two types, so each question to the system on a side is put by a match on the side. The clauses say
+// what the systems mean, and no model does, since callers make a comparison of its fields.
 impl<L: System, R: System> Comparison<'_, L, R> {
     /// How many steps the pair's state on that side has.
     pub(crate) fn step_count(&self, side: Side, pair: &Pair) -> u64

@@ -1,5 +1,6 @@
 ghost use Rattle.std.specs.Prelude.{◌≡◌, Some};
-ghost use Rattle.judge.specs.Judged.{judge_refusal};
+ghost use Rattle.questions.specs.declared.Side.TheVariants.{Right};
+ghost use Rattle.judge.specs.Judged.{say, judge_refusal, fault_text};
 
 use questions::{Refusal, Side};
 use std::error::Error;
@@ -7,6 +8,7 @@ use std::fmt;
 
 /// Why a relation is not accepted: the first no among the judge's questions. A pair is told by its number in the relation,
 /// and a step without a reply by its number in the list of its own state.
+// Left and right are variants and no field, since each is a question of its own.
 #[derive(Clone, Copy, PartialEq, Eq, Debug)]
 pub enum Fault {
     Ranges,
@@ -18,6 +20,16 @@ pub enum Fault {
     RightStep { pair: usize, step: u64 },
 }
 
+/// The refusal, told of the right side.
+fn of_right(refusal: Refusal) -> Refusal
+    ensures { result ≡ say refusal.question Right refusal.item refusal.step }
+{
+    Refusal {
+        side: Side::Right,
+        ..refusal
+    }
+}
+
 impl Fault {
     pub fn refusal(&self) -> Refusal
         ensures { Some result ≡ judge_refusal self.now }
@@ -26,29 +38,27 @@ impl Fault {
             Fault::Ranges => Refusal::of(10, 0),
             Fault::TooMany => Refusal::of(11, 0),
             Fault::LeftUnlawful { pair } => Refusal::of(12, pair),
-            Fault::RightUnlawful { pair } => Refusal {
-                side: Side::Right,
-                ..Refusal::of(13, pair)
-            },
+            Fault::RightUnlawful { pair } => of_right(Refusal::of(13, pair)),
             Fault::Shown { pair } => Refusal::of(14, pair),
             Fault::LeftStep { pair, step } => Refusal {
                 step,
                 ..Refusal::of(15, pair)
             },
-            Fault::RightStep { pair, step } => Refusal {
-                side: Side::Right,
+            Fault::RightStep { pair, step } => of_right(Refusal {
                 step,
                 ..Refusal::of(16, pair)
-            },
+            }),
         }
     }
 }
 
 impl fmt::Display for Fault {
+    ghost output = { λ fault. Some (fault_text fault) };
+
     fn fmt<W: fmt::Write>(&self, f: &mut fmt::Formatter<W>) -> fmt::Result {
-        match self {
-            Fault::Ranges => write!(f, "the systems have different ranges"),
-            Fault::TooMany => write!(f, "the relation has too many pairs"),
+        match *self {
+            Fault::Ranges => f.write_str("the systems have different ranges"),
+            Fault::TooMany => f.write_str("the relation has too many pairs"),
             Fault::LeftUnlawful { pair } => write!(
                 f,
                 "the left state of pair {pair} is not lawful"

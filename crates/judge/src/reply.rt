@@ -63,10 +63,7 @@ impl<L: System, R: System> Challenge<'_, L, R> {
         ensures { Decides result (Reply (meant L.System.means R.System.means self.now.between.now.comparison.now) self.now.side self.now.pair.now self.now.step reply) }
     {
         let comparison = self.between.comparison;
-        let Some(given) = comparison.label(opposite(self.side), self.pair, reply) else {
-            return false;
-        };
-        if self.label != given {
+        if comparison.label(opposite(self.side), self.pair, reply) != Some(self.label) {
             return false;
         }
         if is_receive(&self.label) {
@@ -77,7 +74,7 @@ impl<L: System, R: System> Challenge<'_, L, R> {
     }
 
     /// The first reply among the first `count` steps of the pair's state on the opposite side.
-    fn first_reply_among(&self, count: u64) -> Option<u64>
+    fn first_among(&self, count: u64) -> Option<u64>
         ensures { FirstOf (λ j. (j < count) × Reply (meant L.System.means R.System.means self.now.between.now.comparison.now) self.now.side self.now.pair.now self.now.step j) result }
     {
         (0..count).find(|&reply| self.is_reply(reply))
@@ -102,7 +99,7 @@ impl<L: System, R: System> Aligned<'_, L, R> {
             step,
             label: self.comparison.label(side, pair, step)?,
         };
-        challenge.first_reply_among(count)
+        challenge.first_among(count)
     }
 }
 
@@ -112,7 +109,8 @@ impl<L: System, R: System> Comparison<'_, L, R> {
     pub fn first_reply(&self, side: Side, pair: &Pair, step: u64) -> Option<u64>
         ensures { FirstOf (Reply (meant L.System.means R.System.means self.now) side pair.now step) result }
     {
+        let aligned = self.aligned()?;
         let count = self.step_count(opposite(side), pair);
-        self.aligned()?.first_reply_among(side, pair, step, count)
+        aligned.first_reply_among(side, pair, step, count)
     }
 }

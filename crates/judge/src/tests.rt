@@ -96,6 +96,29 @@ fn passes_with_the_count_of_records(rt: HostRuntime) -> Result<(), Fail> {
 }
 
 #[test]
+fn faults_in_words(rt: HostRuntime) -> Result<(), Fail> {
+    let heap = rt.alloc();
+    assert_eq!(rt;
+        format!(in heap; "{}; {}", Fault::Ranges, Fault::TooMany)?.as_str(),
+        "the systems have different ranges; the relation has too many pairs"
+    );
+    let left = Fault::LeftUnlawful { pair: 1 };
+    let right = Fault::RightUnlawful { pair: 2 };
+    let shown = Fault::Shown { pair: 3 };
+    assert_eq!(rt;
+        format!(in heap; "{left}; {right}; {shown}")?.as_str(),
+        "the left state of pair 1 is not lawful; the right state of pair 2 is not lawful; the states of pair 3 show different sets"
+    );
+    let left = Fault::LeftStep { pair: 4, step: 5 };
+    let right = Fault::RightStep { pair: 6, step: 7 };
+    assert_eq!(rt;
+        format!(in heap; "{left}; {right}")?.as_str(),
+        "step 5 of the left state of pair 4 has no reply; step 7 of the right state of pair 6 has no reply"
+    );
+    Ok(())
+}
+
+#[test]
 fn refuses_with_the_first_no(rt: HostRuntime) {
     let plain = make(false, 1, false);
     assert_eq!(rt; fault_of(plain, make(true, 2, true)), Some(Fault::Ranges));

@@ -41,10 +41,10 @@ impl<L: System, R: System> Aligned<'_, L, R> {
     fn first_without_reply(&self, side: Side, pair: &Pair) -> Option<u64>
         ensures { result ≡ first_no (steps_asked (meant L.System.means R.System.means self.now.comparison.now) side pair.now) }
     {
+        // counted once for all steps, since a network looks at all its ways to count them
         let count = self.comparison.step_count(opposite(side), pair);
-        (0..self.comparison.step_count(side, pair)).find(|&step| !self.is_answered(
-            side, pair, step, count,
-        ))
+        let mut steps = 0..self.comparison.step_count(side, pair);
+        steps.find(|&step| !self.is_answered(side, pair, step, count))
     }
 
     /// The questions to one record of the relation, whose number is `k`.

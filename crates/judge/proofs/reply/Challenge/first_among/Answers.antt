@@ -3,7 +3,7 @@ use Rattle.std.proofs.lemmas.Bool.{false≢true}
 use Rattle.judge.specs.Comparing.{meant}
 use Rattle.judge.specs.Likeness.{Reply}
 use Rattle.judge.proofs.Finding.{first_found}
-use Rattle.judge.proofs.reply.Challenge.first_reply_among.Goals as goal
+use Rattle.judge.proofs.reply.Challenge.first_among.Goals as goal
 
 pub returns : goal.returns
 returns g c =
