@@ -1,5 +1,6 @@
 -- A table of records in bytes: the questions that are put to it, and what the faults of a load refuse with.
-use Rattle.std.specs.Prelude.{◌≡◌, ℕ, ◌/◌, ◌%◌, Bool, ◌&&◌, List, ◌∷◌, length, is_some, Some, None, Option, Result, ◌==◌, nat_le}
+use Rattle.std.specs.Prelude.{◌≡◌, ℕ, ◌/◌, ◌%◌, Bool, ◌&&◌, List, ◌∷◌, ◌++◌, length, is_some, Some, None, Option, Result, ◌==◌, nat_le, codes}
+use Rattle.std.specs.Fmt.{decimal}
 use Rattle.lists.specs.Words.{records}
 use Rattle.questions.specs.Asking.{Question, first_no, put, ask, numbered, refuse, refuse_at, refusal_of}
 use Rattle.questions.specs.declared.Refusal.{Refusal}
@@ -23,6 +24,12 @@ abbrev pub table_refusal : ℕ → ℕ → TableFault → Option Refusal
 table_refusal p q Count = Some (refuse p)
 table_refusal p q (Record k) = Some (refuse_at q k)
 table_refusal p q Memory = None
+
+-- what a fault is called
+abbrev pub fault_text : TableFault → List ℕ
+fault_text Count = codes "the bytes are no whole records, or too many"
+fault_text (Record k) = codes "record " ++ decimal k ++ codes " is not as laid out"
+fault_text Memory = codes "out of memory"
 
 -- an answer refuses with the first no, whichever numbers the two questions have
 abbrev pub Answers : {X R : Type 0} → Result X TableFault → ℕ → ℕ → (List ℕ → Option R) → List ℕ → Type 0

@@ -1,9 +1,9 @@
 #![tactic(auto)]
 
-ghost use Rattle.std.specs.Prelude.{◌≡◌, ℕ, ◌<◌, List, IfOk, Option, is_none, position};
+ghost use Rattle.std.specs.Prelude.{◌≡◌, ℕ, ◌<◌, List, Some, IfOk, Option, is_none, position};
 ghost use Rattle.lists.specs.Words.{records, gathered};
 ghost use Rattle.questions.specs.Certain.{Certain};
-ghost use Rattle.tables.specs.Table.{Answers, table_refusal};
+ghost use Rattle.tables.specs.Table.{Answers, table_refusal, fault_text};
 ghost use Rattle.tables.specs.declared.TableFault.TheVariants.{Memory};
 
 use questions::Refusal;
@@ -34,6 +34,7 @@ impl TableFault {
     }
 }
 
+// by hand: what a derive writes has no contract, and loads say which fault a `?` makes (docs/DECISIONS.md)
 impl From<AllocError> for TableFault {
     ghost from_gives = { λ _ r. r ≡ Memory };
 
@@ -43,8 +44,10 @@ impl From<AllocError> for TableFault {
 }
 
 impl fmt::Display for TableFault {
+    ghost output = { λ fault. Some (fault_text fault) };
+
     fn fmt<W: fmt::Write>(&self, f: &mut fmt::Formatter<W>) -> fmt::Result {
-        match self {
+        match *self {
             TableFault::Count => f.write_str("the bytes are no whole records, or too many"),
             TableFault::Record { number } => write!(f, "record {number} is not as laid out"),
             TableFault::Memory => f.write_str("out of memory"),
@@ -57,6 +60,7 @@ impl Error for TableFault {}
 /// How the records of a table are laid out in bytes: how many bytes a record has, how many records a table has at the
 /// most, and what a record's bytes stand for, if they are as laid out.
 pub trait Layout<R> {
+    // constants of the type, since no layout needs a value of its own to know them
     const WIDTH: usize;
 
     const MOST: usize;
