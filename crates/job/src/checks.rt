@@ -13,7 +13,7 @@ ghost use Rattle.job.specs.Sides.{tables_asked, side_asked, Holds};
 use crate::fault::{JobFault, SideFault};
 use crate::held::Held;
 use crate::sides::{Checked, Records};
-use frames::gather::{payloads, setting};
+use frames::gather::setting;
 use frames::kind::Kind;
 use model::range::Range;
 use model::unit_state::UNITS;
@@ -22,7 +22,7 @@ use rows::layout::RowLayout;
 use rules::fault::RuleFault;
 use rules::link::LinkLayout;
 use rules::tuner::Tuner;
-use tables::{TableFault, check};
+use tables::check;
 
 impl<'a> Records<'a> {
     /// Questions 2 and 3 to the links.
@@ -30,8 +30,7 @@ impl<'a> Records<'a> {
         ensures certain { Certain rule_refusal result }
         ensures refuses { refusal_of rule_refusal result ≡ first_no (links_asked (side_bytes Links self.now.side self.now.bytes.now)) }
     {
-        // more bytes than there is room for are more than 16 links
-        let links = payloads(self.bytes, Kind::Link, self.side).ok_or(TableFault::Count)?;
+        let links = self.payloads(Kind::Link)?;
         check(&LinkLayout, links.as_slice())?;
         Ok(())
     }
@@ -41,11 +40,10 @@ impl<'a> Records<'a> {
         ensures certain { Certain network_refusal result }
         ensures refuses { refusal_of network_refusal result ≡ first_no (network_asked range.lo range.hi units (side_bytes Rows self.now.side self.now.bytes.now)) }
     {
-        if units < 1 || UNITS < units {
+        if !(1..=UNITS).contains(&units) {
             return Err(NetworkFault::Units);
         }
-        // more bytes than there is room for are more than 64 rows
-        let rows = payloads(self.bytes, Kind::Row, self.side).ok_or(TableFault::Count)?;
+        let rows = self.payloads(Kind::Row)?;
         check(&RowLayout { range }, rows.as_slice())?;
         Ok(())
     }

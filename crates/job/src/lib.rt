@@ -8,3 +8,5 @@ pub mod job;
 mod loads;
 pub mod outcome;
 mod sides;
+#[cfg(test)]
+mod tests;

@@ -15,7 +15,7 @@ use crate::held::Held;
 use crate::job::Job;
 use crate::sides::{Checked, Records};
 use frames::frame::check;
-use frames::gather::{payloads, relation};
+use frames::gather::relation;
 use frames::kind::Kind;
 use network::fault::NetworkFault;
 use network::network::Network;
@@ -25,7 +25,6 @@ use rules::fault::RuleFault;
 use rules::links::Links;
 use rules::tuner::Tuner;
 use std::alloc::Global;
-use tables::TableFault;
 
 impl Checked<'_> {
     #[tactic(auto, using(crate::proofs::Tables::side_links))]
@@ -33,8 +32,7 @@ impl Checked<'_> {
         ensures memory { refusal_of rule_refusal result ≡ None }
         ensures means { IfOk result (λ x. links_allow x ≡ meets (links_of (side_bytes LinkKind self.now.records.side self.now.records.bytes.now))) }
     {
-        let Records { bytes, side } = self.records;
-        let links = payloads(bytes, Kind::Link, side).ok_or(TableFault::Count)?;
+        let links = self.records.payloads(Kind::Link)?;
         Links::load(heap, links.as_slice())
     }
 
@@ -46,14 +44,13 @@ impl Checked<'_> {
         ensures memory { refusal_of network_refusal result ≡ None }
         ensures means { IfOk result (λ n. loaded_meaning n ≡ ruled_meaning (side_net self.now.records.side self.now.records.bytes.now) rule) }
     {
-        let Records { bytes, side } = self.records;
         let Held {
             range,
             free,
             units,
             ..
         } = self.held;
-        let rows = payloads(bytes, Kind::Row, side).ok_or(TableFault::Count)?;
+        let rows = self.records.payloads(Kind::Row)?;
         Network::load(heap, range, free, units, rows.as_slice(), rule)
     }
 
