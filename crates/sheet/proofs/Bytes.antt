@@ -1,5 +1,7 @@
 -- The bytes of a sheet's states. Assumes nothing.
-use Rattle.std.proofs.Common.{◌≡◌, ℕ, zero, suc, Bool, true, eqb, List, [], ◌∷◌, length, get_or, take, drop, replicate, Decides, sym, refl, ap, ◌∙◌, arith}
+use Rattle.std.proofs.Common.{◌≡◌, ℕ, zero, suc, Bool, true, ◌&&◌, eqb, List, [], ◌∷◌, map, length, get_or, slice_index_or, slice_set, take, drop, replicate, Decides, sym, refl, ap, ◌∙◌, arith}
+use Rattle.std.specs.List.{range_with_len}
+use Rattle.std.specs.Cmp.Lexicographic.{pointwise}
 use Rattle.std.proofs.lemmas.List.{length-drop, take_all}
 use Rattle.std.proofs.lemmas.Bool.{eqb-true, and_parts}
 use Rattle.lists.specs.Words.{every_from}
@@ -16,6 +18,27 @@ after_first bytes n = take_all 23 (drop 1 bytes) (simp length-drop (omega (arith
 pub lawful_at : (n : ℕ) → sheet_lawful (state_at n) ≡ true
 unfolding state_of state_bytes
 lawful_at n = refl
+
+pub number_at : (n : ℕ) → number_of (state_at n) ≡ n
+unfolding state_of state_bytes
+number_at n = refl
+
+-- six zero units, the first of them at the location n
+pub numbered_unit : (us : List UnitState) (n : ℕ) → us ≡ map (λ _. zero_unit) (range_with_len 0 6)
+    → ◌≡◌ {A = State} (record { units = slice_set us 0 (record { location = n; first = (slice_index_or us 0 zero_unit).first; second = (slice_index_or us 0 zero_unit).second; groups = (slice_index_or us 0 zero_unit).groups }) }) (state_at n)
+unfolding state_of
+numbered_unit us n e =
+    ap (λ (xs : List UnitState). record { units = slice_set xs 0 (record { location = n; first = (slice_index_or xs 0 zero_unit).first; second = (slice_index_or xs 0 zero_unit).second; groups = (slice_index_or xs 0 zero_unit).groups }) }) e
+
+-- compared with zeros, byte by byte
+pub zeros_compared : (n : ℕ) (bytes : List ℕ) → length bytes ≡ n → pointwise eqb bytes (replicate n 0) ≡ zeros bytes
+zeros_compared n bytes e = from 0 n bytes e
+  where
+    from : (k n : ℕ) (bytes : List ℕ) → length bytes ≡ n → pointwise eqb bytes (replicate n 0) ≡ every_from (λ _ b. eqb b 0) k bytes
+    from k zero [] e = refl
+    from k zero (b ∷ bytes) e = absurd (omega (arith, e))
+    from k (suc n) [] e = absurd (omega (arith, e))
+    from k (suc n) (b ∷ bytes) e = ap (λ t. eqb b 0 && t) (from (suc k) n bytes (omega (arith, e)))
 
 all_zeros : (n k : ℕ) (bytes : List ℕ) → length bytes ≡ n → every_from (λ _ b. eqb b 0) k bytes ≡ true → bytes ≡ replicate n 0
 all_zeros zero k [] e z = refl

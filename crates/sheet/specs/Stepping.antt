@@ -1,5 +1,6 @@
--- Walks over the rows of a sheet, one row after the other, and what the steps keep. The row of a turn is `get_or rows k d`, as
--- code reads it. Assumes nothing.
+-- Walks over the rows of a sheet, one row after the other, and what the steps keep. A walk has passed k rows; each lemma says
+-- what it has counted, sought or listed once it has passed the row k too, which is `get_or rows k d`. They stand as facts of
+-- the words. Assumes nothing.
 use Rattle.std.specs.Prelude.{◌≡◌, ℕ, ◌+◌, ◌-◌, ◌<◌, ◌≤◌, Bool, false, cond, List, [], ◌∷◌, ◌++◌, map, length, get_or, take, drop, ℤ, Some, Option, ◌==◌, ◌≢◌, slice_index_or, refl}
 use Rattle.std.proofs.Common.{ap, ◌∙◌, arith}
 use Rattle.std.specs.List.{slice_get}
@@ -42,7 +43,7 @@ module _ (rows : List Row) (n k : ℕ) (d : Row) (within : k < length rows) wher
     pub row_not_here : ((get_or rows k d).from ≢ n) → slice_get (rows_from n (drop (k + 1) rows)) left ≡ goal
     row_not_here e = seek_no from rows k (slice_index_or rows k d) stands left goal inv (ne_eqb _ n e)
 
-  -- listing; v is the value, which the code passes on as u
+  -- listing; v is the value, and u is the one at which a row is listed
   module _ (lo hi v u : ℤ) (same : u ≡ v) (was : List Listed) (inv : was ≡ map (listed_row lo hi v) (rows_from n (take k rows))) where
     pub list_row : (now : List Listed) (x : Listed) → (get_or rows k d).from ≡ n → x ≡ listed_row lo hi u (slice_index_or rows k d) → now ≡ was ++ x ∷ [] → now ≡ map (listed_row lo hi v) (rows_from n (take (k + 1) rows))
     list_row now x e is pushed =

@@ -1,4 +1,5 @@
-ghost use Rattle.std.specs.Prelude.{◌≡◌};
+ghost use Rattle.std.specs.Prelude.{◌≡◌, Some};
+ghost use Rattle.tables.specs.Table.{fault_text};
 ghost use Rattle.sheet.specs.Loading.{sheet_refusal};
 
 use questions::Refusal;
@@ -19,6 +20,7 @@ impl SheetFault {
     }
 }
 
+// by hand: what a derive writes has no contract, and loads say which fault a `?` makes (docs/DECISIONS.md)
 impl From<TableFault> for SheetFault {
     ghost from_gives = { λ e r. r ≡ record { 0 = e } };
 
@@ -28,6 +30,8 @@ impl From<TableFault> for SheetFault {
 }
 
 impl fmt::Display for SheetFault {
+    ghost output = { λ fault. Some (fault_text fault.0) };
+
     fn fmt<W: fmt::Write>(&self, f: &mut fmt::Formatter<W>) -> fmt::Result {
         write!(f, "{}", self.0)
     }

@@ -23,7 +23,8 @@ impl RowLayout {
         !groups.is_empty() && groups.part_within(self.channels) == groups && self.range.holds(value)
     }
 
-    /// What a row does, from its bytes for kind, set, value, to and other.
+    /// What a row does, from its bytes for kind, set, value, to and other. The kind is a byte here, since this reads the
+    /// layout; the enum is what it answers.
     fn kind(&self, code: u8, set: u8, value: u8, to: u8, other: u8) -> Option<Kind>
         ensures { result ≡ kind_of self.now.range.lo self.now.range.hi self.now.channels code set value to other }
     {

@@ -1,5 +1,5 @@
 ghost use Rattle.std.specs.Prelude.{◌≡◌, ℕ, true, Decides};
-ghost use Rattle.sheet.specs.States.{zeros, state_at, sheet_lawful, number_of};
+ghost use Rattle.sheet.specs.States.{state_at, sheet_lawful, number_of};
 
 use model::state::State;
 
@@ -9,15 +9,9 @@ pub fn state_at(number: u8) -> State
     ensures lawful { sheet_lawful result ≡ true }
     ensures number { number_of result ≡ number }
 {
-    let mut bytes = [0; 24];
-    bytes[0] = number;
-    State::from_bytes(bytes)
-}
-
-fn are_zeros(bytes: &[u8]) -> bool
-    ensures { result ≡ zeros bytes.now }
-{
-    bytes.iter().all(|byte| *byte == 0)
+    let mut state = State::default();
+    state.units[0].location = number;
+    state
 }
 
 /// Whether the state is one that a number stands for.
@@ -25,7 +19,8 @@ pub(crate) fn is_lawful(state: &State) -> bool
     ensures is { result ≡ sheet_lawful state.now }
     ensures numbered { Decides result ((n : ℕ) × (state.now ≡ state_at n)) }
 {
-    are_zeros(&state.to_bytes()[1..])
+    // by its bytes, whose contract says that no other state has them
+    state.to_bytes()[1..] == [0; 23]
 }
 
 /// The number of a state, which is its first byte.

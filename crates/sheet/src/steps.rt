@@ -60,6 +60,7 @@ impl Row {
 fn count_from(rows: &[Row], number: u8) -> u64
     ensures { result ≡ length (rows_from number rows.now) }
 {
+    // a step number is a u64 in the trait System, and std counts in usize
     rows.iter().filter(|row| row.from == number).count() as u64
 }
 
@@ -67,6 +68,7 @@ fn count_from(rows: &[Row], number: u8) -> u64
 fn row_from(rows: &[Row], number: u8, step: u64) -> Option<Row>
     ensures { result ≡ slice_get (rows_from number rows.now) step }
 {
+    // nth takes a usize, which has the 64 bits of a step number
     rows.iter()
         .filter(|row| row.from == number)
         .nth(step as usize)
@@ -101,6 +103,7 @@ impl Sheet {
     pub(crate) fn row(&self, state: &State, step: u64) -> Option<Row>
         ensures { result ≡ slice_get (ways_of self.now.rows.items state.now) step }
     {
+        // no `then`: it would give an Option of an Option, to be flattened
         if is_lawful(state) {
             row_from(&self.rows, number_of(state), step)
         } else {
