@@ -3,7 +3,7 @@ ghost use Rattle.verdict.specs.Verdicts.{accepted_bytes, refused_bytes, verdict_
 
 use questions::Refusal;
 
-/// The number for want of memory, which no question has.
+/// The number for want of memory, which no question has. It is a byte of the layout; in code it is `Answer::NoMemory`.
 pub const NO_MEMORY: u8 = 255;
 
 /// What a job is answered.
