@@ -1,5 +1,5 @@
-ghost use Rattle.std.specs.Prelude.{◌≡◌};
-ghost use Rattle.rules.specs.Faults.{rule_refusal};
+ghost use Rattle.std.specs.Prelude.{◌≡◌, Some};
+ghost use Rattle.rules.specs.Faults.{rule_refusal, rule_fault_text};
 ghost use Rattle.rules.specs.declared.fault.RuleFault.TheVariants.{Table};
 
 use questions::Refusal;
@@ -28,6 +28,7 @@ impl RuleFault {
     }
 }
 
+// by hand: what a derive writes has no contract, and loads say which fault a `?` makes (docs/DECISIONS.md)
 impl From<TableFault> for RuleFault {
     ghost from_gives = { λ e r. r ≡ Table e };
 
@@ -37,8 +38,10 @@ impl From<TableFault> for RuleFault {
 }
 
 impl fmt::Display for RuleFault {
+    ghost output = { λ fault. Some (rule_fault_text fault) };
+
     fn fmt<W: fmt::Write>(&self, f: &mut fmt::Formatter<W>) -> fmt::Result {
-        match self {
+        match *self {
             RuleFault::Table(fault) => write!(f, "{fault}"),
             RuleFault::Limit => f.write_str("the limit is above 8"),
         }

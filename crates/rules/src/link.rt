@@ -1,4 +1,5 @@
-ghost use Rattle.std.specs.Prelude.{◌≡◌, ok_or};
+ghost use Rattle.std.specs.Prelude.{◌≡◌, ◌++◌, Some, codes, ok_or};
+ghost use Rattle.std.specs.Fmt.{decimal};
 ghost use Rattle.rules.specs.LinkRecords.{kind_of, link_of, met};
 ghost use Rattle.std.proofs.Common.{rules};
 
@@ -33,6 +34,8 @@ impl TryFrom<u8> for LinkKind {
 }
 
 impl fmt::Display for NoLinkKind {
+    ghost output = { λ e. Some (codes "no kind of link has the byte " ++ decimal e.0) };
+
     fn fmt<W: fmt::Write>(&self, f: &mut fmt::Formatter<W>) -> fmt::Result {
         write!(f, "no kind of link has the byte {}", self.0)
     }

@@ -22,6 +22,7 @@ impl Links {
         ensures refuses { refusal_of rule_refusal result ≡ first_no (links_asked bytes.now) }
         ensures means { IfOk result (λ x. links_allow x ≡ meets (links_of bytes.now)) }
     {
+        // the one loader and a name; not generic over the rule, since the contract names definitions of this one
         Ok(Links {
             links: load(&LinkLayout, heap, bytes)?,
         })

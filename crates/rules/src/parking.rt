@@ -23,6 +23,7 @@ impl Parking {
         ensures refuses { refusal_of rule_refusal result ≡ first_no (parking_asked bytes.now) }
         ensures means { IfOk result (λ x. parking_allows x ≡ parks (places_of bytes.now)) }
     {
+        // the one loader and a name; not generic over the rule, since the contract names definitions of this one
         Ok(Parking {
             places: load(&PlaceLayout, heap, bytes)?,
         })
