@@ -42,7 +42,7 @@ pub(crate) fn pair_from(side: Side, own: State, other: State) -> Pair
 }
 
 // The two systems are of two types, so each question to the system on a side is put by a match on the side. The clauses say
-// what the systems mean, and no model does, since callers make a comparison of its fields.
+// what the systems mean, and no model does: a meaning holds functions, which the value of a model may not.
 impl<L: System, R: System> Comparison<'_, L, R> {
     /// How many steps the pair's state on that side has.
     pub(crate) fn step_count(&self, side: Side, pair: &Pair) -> u64
