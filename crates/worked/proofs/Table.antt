@@ -4,6 +4,7 @@ use lib.Count.{ones}
 use Rattle.std.specs.List.{AllByRecursion}
 use Rattle.lists.specs.Products.{product}
 use Rattle.model.specs.Bytes.{state_of, state_bytes}
+use Rattle.network.specs.Meanings.{set_numbers}
 use Rattle.worked.specs.Entries.{answer}
 use Rattle.worked.specs.Examples.{Examples, table}
 
@@ -23,7 +24,7 @@ all_same f g (x ∷ xs) e = (ap (head (f x)) e, all_same f g xs (ap tail e))
 
 -- the whole table, by computing
 computed : map (λ e. answer e.asked) table ≡ map (λ e. e.must_be) table
-unfolding ones product state_of state_bytes
+unfolding ones product state_of state_bytes set_numbers
 computed = refl
 
 pub examples : Examples
