@@ -55,6 +55,7 @@ fn setting_at(bytes: &[u8], start: usize) -> Setting
 }
 
 /// The setting of a side.
+// Bytes and side stay two arguments: a job has a type for both, and puts the questions of the frames before.
 pub fn setting(bytes: &[u8], side: Side) -> Setting
     ensures { result ≡ setting_of side bytes.now }
 {

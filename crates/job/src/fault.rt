@@ -21,6 +21,7 @@ pub enum SideFault {
     BadNetwork(NetworkFault),
 }
 
+// One of a form, by hand: what a derive writes has no contract, and the checks say which fault a `?` makes.
 impl From<Backward> for SideFault {
     ghost from_gives = { λ e r. r ≡ BadRange e };
 
@@ -79,6 +80,7 @@ pub enum JobFault {
     Memory,
 }
 
+// By hand too, for the same reason.
 impl From<FrameFault> for JobFault {
     ghost from_gives = { λ e r. r ≡ BadFrame e };
 

@@ -28,6 +28,7 @@ impl NetworkFault {
     }
 }
 
+// By hand: what a derive writes has no contract, and the loads say which fault a `?` makes.
 impl From<TableFault> for NetworkFault {
     ghost from_gives = { λ e r. r ≡ Rows e };
 

@@ -46,6 +46,7 @@ fn are_slots_lawful(table: &Table, state: &State) -> bool
 pub(crate) fn union_shown(table: &Table, state: &State) -> GroupSet
     ensures { result ≡ union_shown (net_of table.now) state.now }
 {
+    // The empty set is written out: from `GroupSet::default()` the check does not see that the fold begins at it.
     let union = state.units[..table.units]
         .iter()
         .fold(GroupSet { bits: 0 }, |union, unit| {

@@ -27,6 +27,7 @@ impl<R: Rule> Network<R> {
                 .allows(&self.table.placement(&moved(state, unit, set)))
     }
 
+    // The filter stands here and below, since no function can hand out an iterator that it does not name.
     fn movement_count_of(&self, state: &State, unit: usize) -> usize
         ensures is { result ≡ length (movements_of (net_of self.now.table) (R.Rule.allowed self.now.rule) state.now unit) }
         ensures few { result ≤ 256 }

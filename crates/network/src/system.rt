@@ -33,7 +33,7 @@ impl<R: Rule> Network<R> {
     pub fn way(&self, state: &State, number: usize) -> Option<Way>
         ensures { result ≡ slice_get (lawful_ways (net_of self.now.table) (R.Rule.allowed self.now.rule) state.now) number }
     {
-        // A `then` would hide that an unlawful state is asked nothing more.
+        // A `then` would give an `Option` of an `Option`.
         if self.is_state_lawful(state) {
             self.any_way(state, number)
         } else {

@@ -57,6 +57,7 @@ impl Row {
 }
 
 /// How many of the rows start from the state with the number.
+// The filter stands here and below, since no function can hand out an iterator that it does not name.
 fn count_from(rows: &[Row], number: u8) -> u64
     ensures { result ≡ length (rows_from number rows.now) }
 {

@@ -6,6 +6,7 @@ use rules::parking::Parking;
 use rules::rule::Rule;
 use rules::tuner::Tuner;
 
+// The rows stand in each part of the tour, where the example is read.
 // Unit 0 may park on {0} and on {0, 1}, unit 1 on {0} and on {2}, unit 2 on {3}.
 const PLACES: [u8; 10] = [0, 1, 0, 3, 1, 1, 1, 4, 2, 8];
 

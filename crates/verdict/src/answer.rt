@@ -17,6 +17,7 @@ pub enum Answer {
     NoMemory,
 }
 
+// The conversion has a name, since it speaks of the layout's bytes; a verdict is only written.
 impl Answer {
     /// The verdict, low bytes first: the question's number or 0, the side, two bytes for the record, row or pair number,
     /// eight for the step number, four for the count of pairs.

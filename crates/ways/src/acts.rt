@@ -11,6 +11,7 @@ use model::state::State;
 use model::unit_state::UNITS;
 use rows::row::Action;
 
+// The state is the argument of each call of a system: a struct of table and state would be made anew at each.
 impl Table {
     /// How many combinations of choices go with a row of this action.
     fn action_count(&self, state: &State, unit: usize, action: Action) -> usize

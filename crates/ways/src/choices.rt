@@ -17,6 +17,7 @@ impl Table {
         self.row(row).is_receivable(&unit_at(state, unit))
     }
 
+    // The filter stands here and below, since no function can hand out an iterator that it does not name.
     fn receivable_count(&self, state: &State, unit: usize) -> usize
         ensures is { result ≡ length (receivable_rows (net_of self.now) state.now unit) }
         ensures few { result ≤ 64 }
