@@ -68,7 +68,7 @@ pub fn setting(bytes: &[u8], side: Side) -> Setting
 /// The payloads of a side's records of one kind, one after the other, if there is room for them. The room is fixed, since the
 /// questions of the layouts are put before any memory is asked for.
 #[tactic(auto, unfolding(crate::specs::Payloads::side_bytes))]
-pub fn payloads(bytes: &[u8], kind: Kind, side: Side) -> Option<ArrayVec<u8, ROOM>>
+pub fn payload_bytes(bytes: &[u8], kind: Kind, side: Side) -> Option<ArrayVec<u8, ROOM>>
     ensures { MatchOption result (1024 < length (side_bytes kind side bytes.now)) (λ v. v.items ≡ side_bytes kind side bytes.now) }
 {
     let mut all = ArrayVec::new();

@@ -6,7 +6,7 @@ ghost use Rattle.job.specs.Sides.{side_asked, Holds};
 
 use crate::held::Held;
 use arrayvec::ArrayVec;
-use frames::gather::{ROOM, payloads};
+use frames::gather::{ROOM, payload_bytes};
 use frames::kind::Kind;
 use questions::Side;
 use tables::TableFault;
@@ -23,7 +23,7 @@ impl Records<'_> {
     pub(crate) fn payloads(&self, kind: Kind) -> Result<ArrayVec<u8, ROOM>, TableFault>
         ensures { MatchResult result (λ v. v.items ≡ side_bytes kind self.now.side self.now.bytes.now) (λ e. (e ≡ Count) × (1024 < length (side_bytes kind self.now.side self.now.bytes.now))) }
     {
-        payloads(self.bytes, kind, self.side).ok_or(TableFault::Count)
+        payload_bytes(self.bytes, kind, self.side).ok_or(TableFault::Count)
     }
 }
 
