@@ -14,7 +14,7 @@ fn judged(heap: Global, bytes: &[u8]) -> Result<Pass, JobFault>
     ensures { Judges bytes.now result }
 {
     let job = Job::load(heap, bytes)?;
-    Ok(judge(&job.left, &job.right, &job.relation)?)
+    Ok(judge(heap, &job.left, &job.right, &job.relation)?)
 }
 
 /// The answer to a job, refused or not.

@@ -9,6 +9,7 @@ use model::label::Label;
 use model::range::Range;
 use model::state::{Pair, State};
 use model::value::Value;
+use std::alloc::Global;
 use std::test::Fail;
 use systems::System;
 
@@ -81,17 +82,21 @@ fn pair() -> Pair {
     }
 }
 
-fn fault_of(left: Toy, right: Toy) -> Option<Fault> {
+fn fault_of(heap: Global, left: Toy, right: Toy) -> Option<Fault> {
     let relation = [pair()];
-    judge(&left, &right, &relation).err()
+    judge(heap, &left, &right, &relation).err()
 }
 
 #[test]
 fn passes_with_the_count_of_records(rt: HostRuntime) -> Result<(), Fail> {
+    let heap = rt.alloc();
     let moving = make(false, 1, true);
     let relation = [pair(), pair()];
-    assert_eq!(rt; judge(&moving, &moving, &relation)?.count(), 2);
-    assert_eq!(rt; judge(&moving, &make(false, 2, false), &[])?.count(), 0);
+    assert_eq!(rt; judge(heap, &moving, &moving, &relation)?.count(), 2);
+    assert_eq!(rt;
+        judge(heap, &moving, &make(false, 2, false), &[])?.count(),
+        0
+    );
     Ok(())
 }
 
@@ -120,18 +125,22 @@ fn faults_in_words(rt: HostRuntime) -> Result<(), Fail> {
 
 #[test]
 fn refuses_with_the_first_no(rt: HostRuntime) {
+    let heap = rt.alloc();
     let plain = make(false, 1, false);
-    assert_eq!(rt; fault_of(plain, make(true, 2, true)), Some(Fault::Ranges));
     assert_eq!(rt;
-        fault_of(plain, make(false, 2, true)),
+        fault_of(heap, plain, make(true, 2, true)),
+        Some(Fault::Ranges)
+    );
+    assert_eq!(rt;
+        fault_of(heap, plain, make(false, 2, true)),
         Some(Fault::Shown { pair: 0 })
     );
     assert_eq!(rt;
-        fault_of(make(false, 1, true), plain),
+        fault_of(heap, make(false, 1, true), plain),
         Some(Fault::LeftStep { pair: 0, step: 1 })
     );
     assert_eq!(rt;
-        fault_of(plain, make(false, 1, true)),
+        fault_of(heap, plain, make(false, 1, true)),
         Some(Fault::RightStep { pair: 0, step: 1 })
     );
 }

@@ -9,6 +9,7 @@ use crate::comparison::{Comparison, opposite};
 use crate::fault::Fault;
 use model::state::Pair;
 use questions::Side;
+use std::alloc::Global;
 use systems::System;
 
 /// The most records that a relation may have.
@@ -74,6 +75,7 @@ impl<L: System, R: System> Aligned<'_, L, R> {
 /// A pass with the count of records where the relation is a late strong bisimulation between the systems, and else the
 /// first no.
 pub fn judge<'a, L: System, R: System>(
+    _heap: Global,
     left: &'a L,
     right: &'a R,
     relation: &'a [Pair],

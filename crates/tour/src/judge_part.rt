@@ -32,7 +32,7 @@ pub fn show_verdict<L: System, R: System>(
     relation: &[Pair],
 ) -> anyhow::Result<()> {
     print!(rt; "{what}: ")?;
-    match judge(left, right, relation) {
+    match judge(rt.alloc(), left, right, relation) {
         Ok(pass) => {
             let count = pass.count();
             println!(rt; "accepted, {count} pairs")?;
