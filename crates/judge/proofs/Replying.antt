@@ -30,10 +30,10 @@ module _ (c : Compared) (one : OneRange c) where
   range_on Right v = ap (λ lo. in_range lo c.left.hi v) one.same_lo ∙ ap (λ hi. in_range c.right.lo hi v) one.same_hi
 
   module _ (side : Side) (p : Pair) (i j : ℕ) (x y : Step) (x-at : Stands (steps_on side c p) x i) (y-at : Stands (steps_on (opposed side) c p) y j) where
-    own_landing : (v : ℤ) → in_range_of c.left v ≡ true → landing_on side c p i v ≡ Some (x.landing v)
+    pub own_landing : (v : ℤ) → in_range_of c.left v ≡ true → landing_on side c p i v ≡ Some (x.landing v)
     own_landing v within = landing_there (system_on side c) (state_on side p) i v x x-at (sym (range_on side v) ∙ within)
 
-    other_landing : (v : ℤ) → in_range_of c.left v ≡ true → landing_on (opposed side) c p j v ≡ Some (y.landing v)
+    pub other_landing : (v : ℤ) → in_range_of c.left v ≡ true → landing_on (opposed side) c p j v ≡ Some (y.landing v)
     other_landing v within = landing_there (system_on (opposed side) c) (state_on (opposed side) p) j v y y-at (sym (range_on (opposed side) v) ∙ within)
 
     landed : (v : ℤ) → in_range_of c.left v ≡ true → LandsAt c side p i j v → Holds c.relation (pair_from side (x.landing v) (y.landing v))

@@ -6,14 +6,14 @@ use systems::System;
 
 /// A comparison of two systems that have one range.
 #[derive(Drop)]
-pub(crate) struct Aligned<'a, L: System, R: System> {
-    pub(crate) comparison: &'a Comparison<'a, L, R>,
+pub struct Aligned<'a, L: System, R: System> {
+    pub comparison: &'a Comparison<'a, L, R>,
     ghost one_range: { OneRange (meant L.System.means R.System.means comparison.now) },
 }
 
 impl<L: System, R: System> Comparison<'_, L, R> {
     /// The comparison of systems that have one range; none where their ranges differ.
-    pub(crate) fn aligned(&self) -> Option<Aligned<'_, L, R>>
+    pub fn aligned(&self) -> Option<Aligned<'_, L, R>>
         ensures { MatchOption result (OneRange (meant L.System.means R.System.means self.now) → ⊥) (λ x. x.comparison.now ≡ self.now) }
     {
         // no `then_some`: the ghost field holds in this branch alone

@@ -16,7 +16,7 @@ pub struct Comparison<'a, L, R> {
 }
 
 // A side and a pair are of other crates, to which an opposite side means nothing: so functions here, and no methods there.
-pub(crate) fn opposite(side: Side) -> Side
+pub fn opposite(side: Side) -> Side
     ensures { result ≡ opposed side }
 {
     match side {
@@ -26,7 +26,7 @@ pub(crate) fn opposite(side: Side) -> Side
 }
 
 /// The pair of a state on a side and a state on the opposite side, the left one first.
-pub(crate) fn pair_from(side: Side, own: State, other: State) -> Pair
+pub fn pair_from(side: Side, own: State, other: State) -> Pair
     ensures { result ≡ pair_from side own other }
 {
     match side {
@@ -45,7 +45,7 @@ pub(crate) fn pair_from(side: Side, own: State, other: State) -> Pair
 // what the systems mean, and no model does: a meaning holds functions, which the value of a model may not.
 impl<L: System, R: System> Comparison<'_, L, R> {
     /// How many steps the pair's state on that side has.
-    pub(crate) fn step_count(&self, side: Side, pair: &Pair) -> u64
+    pub fn step_count(&self, side: Side, pair: &Pair) -> u64
         ensures { result ≡ length (steps_on side (meant L.System.means R.System.means self.now) pair.now) }
     {
         match side {
@@ -55,7 +55,7 @@ impl<L: System, R: System> Comparison<'_, L, R> {
     }
 
     /// The label of a step of the pair's state on that side, or none where the list has no such step.
-    pub(crate) fn label(&self, side: Side, pair: &Pair, step: u64) -> Option<Label>
+    pub fn label(&self, side: Side, pair: &Pair, step: u64) -> Option<Label>
         ensures { result ≡ label_on side (meant L.System.means R.System.means self.now) pair.now step }
     {
         match side {
@@ -66,7 +66,7 @@ impl<L: System, R: System> Comparison<'_, L, R> {
 
     /// Where a step of the pair's state on that side lands at a value, or none where the list has no such step or the value
     /// is out of that system's range.
-    pub(crate) fn landing(&self, side: Side, pair: &Pair, step: u64, value: Value) -> Option<State>
+    pub fn landing(&self, side: Side, pair: &Pair, step: u64, value: Value) -> Option<State>
         ensures { result ≡ landing_on side (meant L.System.means R.System.means self.now) pair.now step value }
     {
         match side {

@@ -2,7 +2,7 @@
 // are known by their meaning alone.
 #![tactic(auto)]
 
-mod aligned;
+pub mod aligned;
 pub mod comparison;
 pub mod fault;
 pub mod reply;

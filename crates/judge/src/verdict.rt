@@ -13,7 +13,7 @@ use std::alloc::Global;
 use systems::System;
 
 /// The most records that a relation may have.
-const MOST: usize = 4096;
+pub const MOST: usize = 4096;
 
 /// What the judge answers for a relation that it accepts. Nothing else makes one.
 #[derive(Drop, Debug)]
