@@ -25,7 +25,7 @@ landing_there m s i v x at within =
 
 module _ (c : Compared) (one : OneRange c) where
   -- the one range, on either side
-  range_on : (side : Side) (v : ℤ) → in_range_of c.left v ≡ in_range_of (system_on side c) v
+  pub range_on : (side : Side) (v : ℤ) → in_range_of c.left v ≡ in_range_of (system_on side c) v
   range_on Left v = refl
   range_on Right v = ap (λ lo. in_range lo c.left.hi v) one.same_lo ∙ ap (λ hi. in_range c.right.lo hi v) one.same_hi
 

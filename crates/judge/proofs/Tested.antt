@@ -62,7 +62,7 @@ module _ (f : ℤ → Bool) (P : ℤ → Type 0) (each : (v : ℤ) → Decides (
       ] refl
 
 module _ (c : Compared) (side : Side) where
-  decides_replies : (x y : Step) → Decides (replies c side x y) ((x.label ≡ y.label) × Lands c side x y)
+  pub decides_replies : (x y : Step) → Decides (replies c side x y) ((x.label ≡ y.label) × Lands c side x y)
   decides_replies x y =
       Decides-and _ _ (decides_label x.label y.label)
       (decides_each (λ v. holds c.relation (pair_from side (x.landing v) (y.landing v))) (λ v. Holds c.relation (pair_from side (x.landing v) (y.landing v)))

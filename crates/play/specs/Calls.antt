@@ -49,9 +49,9 @@ abbrev pub if_there : {X A : Type 0} → (X → List (Question A)) → Option X 
 if_there f None = []
 if_there f (Some x) = f x
 
--- begin: is the pair number below the pass's count?
-abbrev pub begin_asked : Pass → ℕ → List (Question Refusal)
-begin_asked pass k = ask (refuse 17) (nat_lt k pass.count)
+-- begin: is the pair number k below the pass's count?
+abbrev pub begin_asked : ℕ → ℕ → List (Question Refusal)
+begin_asked count k = ask (refuse 17) (nat_lt k count)
 
 -- every later call: one range, a relation that is short enough, and a record with the number k; then f about that record
 abbrev pub present_asked : Compared → ℕ → (Pair → List (Question Refusal)) → List (Question Refusal)
@@ -118,7 +118,7 @@ abbrev pub HandsBack : {P X : Type 0} → P → Result X (Refused P) → Type 0
 HandsBack play r = IfErr r (λ e. e.play ≡ play)
 
 pub record Begins (pass : Pass) (k : ℕ) (r : Result Level Fault) : Type 0 where
-  pub refuses : refusal_of play_refusal r ≡ first_no (begin_asked pass k)
+  pub refuses : refusal_of play_refusal r ≡ first_no (begin_asked pass.count k)
   pub stands : IfOk r (λ next. next.pair ≡ k)
 
 pub record Challenges (c : Compared) (play : Level) (side : Side) (i : ℕ) (r : Result Challenged (Refused Level)) : Type 0 where
