@@ -1,6 +1,7 @@
 //! Times the proved judge, linked as a static library, against a plain one, on families of jobs. README.md says how to run
 //! it and how to read what it prints.
 
+mod alone;
 mod clock;
 mod families;
 mod plain;
@@ -10,10 +11,8 @@ mod report;
 use families::{Expected, FAMILIES, Family, Job, SERIES};
 use report::{Measured, Side};
 use std::hint::black_box;
-use std::io::{BufRead, BufReader};
-use std::process::{Child, Command, ExitCode, Stdio};
-use std::sync::mpsc::{Receiver, channel};
-use std::time::{Duration, Instant};
+use std::process::ExitCode;
+use std::time::Duration;
 
 struct Settings {
     /// How long the proved judge has for a family's jobs, each once.
@@ -78,114 +77,48 @@ fn differs(family: &Family, number: usize, job: &Job, plain: &str, proved: &str)
     format!("VERDICTS DIFFER: {} job {number}: plain {plain}, proved {proved}; {kept}", family.name)
 }
 
-/// What a process that runs the proved judge alone on a family says: a line for each verdict, and its peak memory.
-struct Alone {
-    child: Child,
-    lines: Receiver<String>,
-}
-
-impl Alone {
-    fn start(family: &Family) -> Result<Alone, Failure> {
-        let program = std::env::current_exe().map_err(|error| error.to_string())?;
-        let mut child = Command::new(program)
-            .args(["--proved-alone", family.name])
-            .stdout(Stdio::piped())
-            .spawn()
-            .map_err(|error| error.to_string())?;
-        let output = child.stdout.take().ok_or("the process has no output")?;
-        let (sender, lines) = channel();
-        std::thread::spawn(move || {
-            for line in BufReader::new(output).lines().map_while(Result::ok) {
-                if sender.send(line).is_err() {
-                    return;
-                }
-            }
-        });
-        Ok(Alone { child, lines })
-    }
-
-    /// The lines until the process ends or the time is over, and whether it ended by itself.
-    fn lines(mut self, limit: Duration) -> Result<(Vec<String>, bool), Failure> {
-        let mut lines = Vec::new();
-        let mut end = Instant::now() + limit;
-        while let Some(left) = end.checked_duration_since(Instant::now()) {
-            match self.lines.recv_timeout(left) {
-                // the time begins when the jobs are made
-                Ok(line) if line == "begins" => end = Instant::now() + limit,
-                Ok(line) => lines.push(line),
-                Err(_) => break,
-            }
-        }
-        let _ = self.child.kill().and_then(|()| self.child.wait());
-        let is_whole = lines.last().is_some_and(|line| line.starts_with("peak "));
-        Ok((lines, is_whole))
-    }
-}
-
-/// The process that runs the proved judge alone.
-fn proved_alone(name: &str) -> Result<(), Failure> {
-    let family = all().find(|family| family.name == name).ok_or("no such family")?;
-    let jobs = (family.jobs)();
-    let before = report::peak_kib()?;
-    println!("begins");
-    for job in &jobs {
-        let start = clock::spent();
-        let verdict = proved::verdict(&job.input);
-        println!("{} {}", (clock::spent() - start).as_nanos(), hex(&verdict));
-    }
-    println!("peak {before} {}", report::peak_kib()?);
-    Ok(())
-}
-
-/// The time of one pass over the jobs, in the mean of as many passes as fill a round.
-fn time(settings: &Settings, jobs: &[Job], judge: impl Fn(&[u8]) -> [u8; 16]) -> Duration {
-    let pass = || {
-        for job in jobs {
-            black_box(judge(black_box(&job.input)));
-        }
-    };
+/// The time of one pass over the jobs, in the mean of as many passes as fill a round. Each verdict is held to the one that
+/// is known by then.
+fn time(
+    settings: &Settings,
+    jobs: &[Job],
+    answers: &[plain::Answer],
+    judge: impl Fn(&[u8]) -> [u8; 16],
+) -> Result<Duration, Failure> {
+    let (mut passes, mut wrong) = (0, 0);
     let start = clock::spent();
-    let mut passes = 0;
     while passes == 0 || clock::spent() - start < settings.least {
-        pass();
+        for (job, answer) in jobs.iter().zip(answers) {
+            wrong += u32::from(judge(black_box(&job.input)) != answer.verdict);
+        }
         passes += 1;
     }
-    (clock::spent() - start) / passes
+    let spent = clock::spent() - start;
+    if wrong == 0 { Ok(spent / passes) } else { Err(format!("VERDICTS DIFFER: {wrong} in {passes} passes")) }
 }
 
 fn measure(settings: &Settings, family: &'static Family) -> Result<Measured, Failure> {
     let jobs = (family.jobs)();
     let answers = by_plain(family, &jobs)?;
-    let (lines, is_whole) = Alone::start(family)?.lines(settings.limit)?;
-    let mut alone = Duration::ZERO;
-    let mut done = 0;
-    let mut peak = None;
-    for line in &lines {
-        let words: Vec<&str> = line.split(' ').collect();
-        if words[0] == "peak" {
-            peak = Some((words[1].parse().unwrap_or(0), words[2].parse().unwrap_or(0)));
-            continue;
+    let ran = alone::run(&jobs, settings.limit)?;
+    for (number, (done, answer)) in ran.done.iter().zip(&answers).enumerate() {
+        let verdict = hex(&answer.verdict);
+        if done.verdict != verdict {
+            return Err(differs(family, number, &jobs[number], &verdict, &done.verdict));
         }
-        alone += Duration::from_nanos(words[0].parse().map_err(|_| format!("{}: {line}", family.name))?);
-        let verdict = hex(&answers[done].verdict);
-        if words[1] != verdict {
-            return Err(differs(family, done, &jobs[done], &verdict, words[1]));
-        }
-        done += 1;
     }
-    if is_whole != (done == jobs.len()) {
-        return Err(format!("{}: the proved judge ended after {done} of {} jobs", family.name, jobs.len()));
-    }
-    let looked = &answers[..if is_whole { jobs.len() } else { done.max(1) }];
-    let jobs_done = &jobs[..looked.len()];
+    let spent: Duration = ran.done.iter().map(|done| done.time).sum();
+    let is_whole = ran.done.len() == jobs.len();
+    let count = ran.done.len().max(1);
+    let (jobs_done, answers) = (&jobs[..count], &answers[..count]);
     let (mut plain, mut proved) = (Duration::MAX, Duration::MAX);
     for _ in 0..settings.rounds {
-        plain = plain.min(time(settings, jobs_done, |input| plain::answer(input).verdict));
+        plain = plain.min(time(settings, jobs_done, answers, |input| plain::answer(input).verdict)?);
         if is_whole {
-            proved = proved.min(time(settings, jobs_done, proved::verdict));
+            proved = proved.min(time(settings, jobs_done, answers, proved::verdict)?);
         }
-        // what takes long enough need not be taken again
-        if alone > Duration::from_secs(10) {
+        // what takes that long need not be taken again
+        if spent > Duration::from_secs(10) {
             break;
         }
     }
@@ -193,15 +126,16 @@ fn measure(settings: &Settings, family: &'static Family) -> Result<Measured, Fai
         family,
         jobs: jobs.len(),
         pairs: jobs.iter().map(|job| report::pairs(&job.input)).sum(),
-        steps: looked.iter().map(|answer| answer.steps).sum(),
-        landings: looked.iter().map(|answer| answer.landings).sum(),
+        steps: answers.iter().map(|answer| answer.steps).sum(),
+        landings: answers.iter().map(|answer| answer.landings).sum(),
         plain,
-        proved: match (is_whole, done) {
-            (true, _) => Side::Whole(proved),
-            (false, 0) => Side::NoJob(settings.limit),
-            (false, done) => Side::Part(alone, done),
+        proved: match ran.done.len() {
+            _ if is_whole => Side::Whole(proved),
+            0 => Side::NoJob(settings.limit),
+            done => Side::Part(spent, done),
         },
-        peak,
+        before: ran.before,
+        peak: ran.done.last().map_or(ran.before, |done| done.peak),
     })
 }
 
@@ -284,7 +218,7 @@ fn plain_alone() -> Result<(), Failure> {
 fn main() -> ExitCode {
     let words: Vec<String> = std::env::args().skip(1).collect();
     let done = match words.iter().map(String::as_str).collect::<Vec<_>>()[..] {
-        ["--proved-alone", name] => proved_alone(name),
+        ["proved-alone"] => alone::serve(),
         ["cases", folder] => cases(folder),
         ["write", folder] => write(folder),
         ["plain"] => plain_alone(),

@@ -24,8 +24,9 @@ pub struct Measured {
     pub landings: u64,
     pub plain: Duration,
     pub proved: Side,
-    /// The peak of the process that ran the proved judge alone, in KiB: before the first verdict, and at the end.
-    pub peak: Option<(u64, u64)>,
+    /// The most memory of the process that ran the proved judge alone, in KiB: before the first job, and in all.
+    pub before: u64,
+    pub peak: u64,
 }
 
 impl Measured {
@@ -37,15 +38,12 @@ impl Measured {
     }
 }
 
-/// The most memory that this process has had, in KiB.
-pub fn peak_kib() -> Result<u64, String> {
-    let status = std::fs::read_to_string("/proc/self/status").map_err(|error| error.to_string())?;
-    let line = status.lines().find_map(|line| line.strip_prefix("VmHWM:")).ok_or("no VmHWM")?;
-    line.trim().trim_end_matches(" kB").parse().map_err(|_| format!("VmHWM is {line}"))
-}
-
 pub fn pairs(input: &[u8]) -> usize {
     input.chunks(64).filter(|record| record.first() == Some(&4)).count()
+}
+
+fn mib(kib: u64) -> f64 {
+    kib as f64 / 1024.0
 }
 
 fn millis(time: Duration) -> f64 {
@@ -92,7 +90,7 @@ pub fn line(one: &Measured) {
         time,
         rate_of_proved,
         format!("{mark}{:.2}", one.ratio()),
-        one.peak.map_or(String::from("-"), |(_, end)| format!("{:.1}", end as f64 / 1024.0)),
+        format!("{:.1}", mib(one.peak)),
     );
     match one.proved {
         Side::Part(_, done) => println!("{:10} time was over: steps, times and ratio are of the first {done} jobs", ""),
@@ -103,8 +101,13 @@ pub fn line(one: &Measured) {
     }
 }
 
-fn verdict(is_met: bool) -> &'static str {
-    if is_met { "met   " } else { "MISSED" }
+/// Whether a target is met. It is open where it is met as far as was seen, and the time was over.
+fn verdict(is_whole: bool, is_met: bool) -> &'static str {
+    match (is_met, is_whole) {
+        (false, _) => "MISSED",
+        (true, false) => "OPEN  ",
+        (true, true) => "met   ",
+    }
 }
 
 pub fn targets(measured: &[Measured]) {
@@ -117,7 +120,7 @@ pub fn targets(measured: &[Measured]) {
         };
         println!(
             "{} {}: the proved judge takes {bound}{:.2} times as long as the plain one{} (at most {RATIO})",
-            verdict(is_whole && one.ratio() <= RATIO),
+            verdict(is_whole, one.ratio() <= RATIO),
             one.family.name,
             one.ratio(),
             if is_whole { "" } else { ", on the jobs that were done" },
@@ -126,17 +129,14 @@ pub fn targets(measured: &[Measured]) {
     growth(measured);
     for one in measured {
         let name = one.family.name;
-        match one.peak {
-            Some((before, end)) => {
-                let end = end as f64 / 1024.0;
-                let before = before as f64 / 1024.0;
-                println!(
-                    "{} {name}: peak memory {end:.1} MiB, {before:.1} before the first verdict (below {PEAK})",
-                    verdict(end < PEAK)
-                );
-            }
-            None => println!("{} {name}: peak memory is not known, since the time was over", verdict(false)),
-        }
+        let is_whole = matches!(one.proved, Side::Whole(_));
+        println!(
+            "{} {name}: peak memory {:.1} MiB, of which {:.1} before the first job{} (below {PEAK})",
+            verdict(is_whole, mib(one.peak) < PEAK),
+            mib(one.peak),
+            mib(one.before),
+            if is_whole { "" } else { ", on the jobs that were done" },
+        );
     }
 }
 
@@ -151,12 +151,12 @@ fn growth(measured: &[Measured]) {
                 let factor = after.as_secs_f64() / before.as_secs_f64();
                 println!(
                     "{} {from} to {to} pairs: {factor:.2} times the time, the plain judge {plain:.2} (at most {GROWTH})",
-                    verdict(factor <= GROWTH)
+                    verdict(true, factor <= GROWTH)
                 );
             }
             _ => println!(
                 "{} {from} to {to} pairs: not known, since the time was over; the plain judge {plain:.2}",
-                verdict(false)
+                verdict(false, true)
             ),
         }
     }
