@@ -1,3 +1,4 @@
 pub mod Deciding
 pub mod Groups
 pub mod Layouts
+mod Texts

@@ -4,5 +4,6 @@ pub mod Bytes
 pub mod GroupSets
 pub mod Placements
 pub mod Ranges
+pub mod Text
 pub mod UnitEq
 pub mod Values

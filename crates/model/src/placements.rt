@@ -1,4 +1,4 @@
-ghost use Rattle.std.specs.Prelude.{◌≡◌, take, IfOk, Some};
+ghost use Rattle.std.specs.Prelude.{◌≡◌, take, IfOk, Some, codes};
 ghost use Rattle.questions.specs.Asking.{first_no, refusal_of};
 ghost use Rattle.model.specs.Placements.{sets_of, units_asked, units_refusal};
 
@@ -39,8 +39,10 @@ impl BadUnitCount {
 }
 
 impl fmt::Display for BadUnitCount {
+    ghost output = { λ _. Some (codes "there are not 1 to 6 units") };
+
     fn fmt<W: fmt::Write>(&self, f: &mut fmt::Formatter<W>) -> fmt::Result {
-        write!(f, "there are not 1 to 6 units")
+        f.write_str("there are not 1 to 6 units")
     }
 }
 

@@ -1,4 +1,4 @@
-ghost use Rattle.std.specs.Prelude.{◌≡◌, IfOk, Some};
+ghost use Rattle.std.specs.Prelude.{◌≡◌, IfOk, Some, codes};
 ghost use Rattle.questions.specs.Asking.{first_no, refusal_of};
 ghost use Rattle.model.specs.Ranges.{in_range, range_asked, range_refusal};
 
@@ -38,8 +38,10 @@ impl Backward {
 }
 
 impl fmt::Display for Backward {
+    ghost output = { λ _. Some (codes "the range's lowest value is above its highest") };
+
     fn fmt<W: fmt::Write>(&self, f: &mut fmt::Formatter<W>) -> fmt::Result {
-        write!(f, "the range's lowest value is above its highest")
+        f.write_str("the range's lowest value is above its highest")
     }
 }
 

@@ -2,7 +2,8 @@
 // which no is the first, stands in specs/Asking.antt; the laws of it in proofs/.
 #![tactic(auto)]
 
-ghost use Rattle.std.specs.Prelude.{◌≡◌};
+ghost use Rattle.std.specs.Prelude.{◌≡◌, ◌++◌, Some, codes};
+ghost use Rattle.std.specs.Fmt.{decimal};
 ghost use Rattle.questions.specs.Asking.{refuse_at};
 ghost use Rattle.questions.specs.Sides.{side_byte, ReadsSide};
 
@@ -47,6 +48,8 @@ impl TryFrom<u8> for Side {
 }
 
 impl fmt::Display for NoSide {
+    ghost output = { λ e. Some (codes "no side has the byte " ++ decimal e.0) };
+
     fn fmt<W: fmt::Write>(&self, f: &mut fmt::Formatter<W>) -> fmt::Result {
         write!(f, "no side has the byte {}", self.0)
     }
