@@ -1,18 +1,19 @@
 // The start of an input, as far as there is room for it.
 #![tactic(auto)]
 
-ghost use Rattle.std.specs.Prelude.{◌≤◌, ◌<◌, length, take, IfOk};
+ghost use Rattle.std.specs.Prelude.{ℕ, ◌≤◌, ◌<◌, length, take, IfOk, OnErr};
 ghost use Rattle.std.specs.Io.KnownBytes.{Consumes, IsAtEnd};
 
 use std::io;
 use std::io::Read;
 
 /// Reads until the buffer is full or the input ends, and answers how many bytes are there. What stands in the buffer behind
-/// them, and what a failed read leaves, is open.
+/// them is open. Where a read fails, what was read before it stands at the start, and there was room left.
 pub fn fill<R: Read>(input: &mut R, buffer: &mut [u8]) -> io::Result<usize>
     ensures room { IfOk result (λ n. n ≤ length buffer.new) }
     ensures bytes { IfOk result (λ n. Consumes (R.Read.remaining input.old) (R.Read.remaining input.new) (take n buffer.new)) }
     ensures end { IfOk result (λ n. n < length buffer.new → IsAtEnd (R.Read.remaining input.new)) }
+    ensures failed { OnErr result ((n : ℕ) × (n < length buffer.new) × Consumes (R.Read.remaining input.old) (R.Read.remaining input.new) (take n buffer.new)) }
 {
     // by hand, since read_exact wants a full buffer, and read_to_end asks for memory
     let mut filled = 0;
