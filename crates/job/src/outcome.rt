@@ -33,7 +33,7 @@ pub fn answer(heap: Global, bytes: &[u8]) -> Answer
 /// are `ENOUGH`.
 pub fn verdict(heap: Global, bytes: &[u8]) -> [u8; 16]
     ensures whole { Verdict bytes.now result }
-    ensures start { (input : List ℕ) → bytes.now ≡ take 65537 input → Verdict input result }
+    ensures start { (input : List ℕ) → bytes.now ≡ take ENOUGH input → Verdict input result }
 {
     answer(heap, bytes).to_bytes()
 }
