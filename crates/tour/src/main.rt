@@ -3,6 +3,7 @@
 
 mod judge_part;
 mod networks_part;
+mod play_part;
 mod refusals;
 mod rules_part;
 mod sheets_part;
@@ -23,5 +24,8 @@ fn main(rt: HostRuntime) -> anyhow::Result<()> {
     println!(rt)?;
     println!(rt; "The judge")?;
     networks_part::show_judged(&rt)?;
-    judge_part::show_judge(&rt)
+    judge_part::show_judge(&rt)?;
+    println!(rt)?;
+    println!(rt; "A play between the sheet of four rows and itself")?;
+    play_part::show_play(&rt)
 }
