@@ -4,3 +4,4 @@ pub mod Finding
 pub mod Replying
 pub mod Tested
 pub mod Exactly
+pub mod Listed

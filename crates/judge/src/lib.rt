@@ -5,6 +5,9 @@
 pub mod aligned;
 pub mod comparison;
 pub mod fault;
+mod held;
+mod index;
+mod numbers;
 pub mod reply;
 #[cfg(test)]
 mod tests;

@@ -13,7 +13,7 @@ use model::value::Value;
 use questions::Side;
 use systems::System;
 
-fn is_receive(label: &Label) -> bool
+pub(crate) fn is_receive(label: &Label) -> bool
     ensures { result ≡ receives label.now }
 {
     matches!(label, Label::Receive { .. })
@@ -82,6 +82,23 @@ impl<L: System, R: System> Challenge<'_, L, R> {
 }
 
 impl<L: System, R: System> Aligned<'_, L, R> {
+    /// Whether the step `reply` of the pair's state on the opposite side is a reply to the step on this side.
+    pub(crate) fn is_reply(&self, side: Side, pair: &Pair, step: u64, reply: u64) -> bool
+        ensures { result ≡ true → Reply (meant L.System.means R.System.means self.now.comparison.now) side pair.now step reply }
+    {
+        match self.comparison.label(side, pair, step) {
+            Some(label) => Challenge {
+                between: self,
+                side,
+                pair,
+                step,
+                label,
+            }
+            .is_reply(reply),
+            None => false,
+        }
+    }
+
     /// The first reply to the step among the first `count` steps of the pair's state on the opposite side.
     pub(crate) fn first_reply_among(
         &self,

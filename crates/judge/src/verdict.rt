@@ -1,4 +1,4 @@
-ghost use Rattle.std.specs.Prelude.{◌≡◌, ℕ, ◌<◌, Decides};
+ghost use Rattle.std.specs.Prelude.{◌≡◌, ℕ, ◌<◌, IfSome, Decides};
 ghost use Rattle.questions.specs.Asking.{first_no, refusal_of};
 ghost use Rattle.judge.specs.Comparing.{comparing, meant};
 ghost use Rattle.judge.specs.Likeness.{Reply};
@@ -7,6 +7,8 @@ ghost use Rattle.judge.specs.Judged.{steps_asked, pair_asked, judge_refusal, Jud
 use crate::aligned::Aligned;
 use crate::comparison::{Comparison, opposite};
 use crate::fault::Fault;
+use crate::held::Held;
+use crate::index::Index;
 use model::state::Pair;
 use questions::Side;
 use std::alloc::Global;
@@ -32,7 +34,7 @@ impl Pass {
 
 impl<L: System, R: System> Aligned<'_, L, R> {
     /// Whether the step has a reply among the first `count` steps of the pair's state on the opposite side.
-    fn is_answered(&self, side: Side, pair: &Pair, step: u64, count: u64) -> bool
+    pub(crate) fn is_answered(&self, side: Side, pair: &Pair, step: u64, count: u64) -> bool
         ensures { Decides result ((j : ℕ) × ((j < count) × Reply (meant L.System.means R.System.means self.now.comparison.now) side pair.now step j)) }
     {
         self.first_reply_among(side, pair, step, count).is_some()
@@ -48,8 +50,30 @@ impl<L: System, R: System> Aligned<'_, L, R> {
         steps.find(|&step| !self.is_answered(side, pair, step, count))
     }
 
+    /// The same, by what is held of the pair, if anything is.
+    fn first_unanswered(
+        &self,
+        held: &Option<Held<'_, L, R>>,
+        side: Side,
+        pair: &Pair,
+    ) -> Option<u64>
+        requires { IfSome held.now (λ x. (x.between.now ≡ self.now) × (x.pair.now ≡ pair.now)) }
+        ensures { result ≡ first_no (steps_asked (meant L.System.means R.System.means self.now.comparison.now) side pair.now) }
+    {
+        match held {
+            Some(held) => held.first_without_reply(side),
+            None => self.first_without_reply(side, pair),
+        }
+    }
+
     /// The questions to one record of the relation, whose number is `k`.
-    fn judge_pair(&self, k: usize, pair: &Pair) -> Result<(), Fault>
+    fn judge_pair<'a>(
+        &'a self,
+        heap: Global,
+        index: &'a Option<Index>,
+        k: usize,
+        pair: &'a Pair,
+    ) -> Result<(), Fault>
         ensures { refusal_of judge_refusal result ≡ first_no (pair_asked (meant L.System.means R.System.means self.now.comparison.now) k pair.now) }
     {
         let Comparison { left, right, .. } = self.comparison;
@@ -62,10 +86,14 @@ impl<L: System, R: System> Aligned<'_, L, R> {
         if left.shown(&pair.left) != right.shown(&pair.right) {
             return Err(Fault::Shown { pair: k });
         }
-        if let Some(step) = self.first_without_reply(Side::Left, pair) {
+        let held = match index {
+            Some(index) => self.held(heap, index, pair),
+            None => None,
+        };
+        if let Some(step) = self.first_unanswered(&held, Side::Left, pair) {
             return Err(Fault::LeftStep { pair: k, step });
         }
-        if let Some(step) = self.first_without_reply(Side::Right, pair) {
+        if let Some(step) = self.first_unanswered(&held, Side::Right, pair) {
             return Err(Fault::RightStep { pair: k, step });
         }
         Ok(())
@@ -75,7 +103,7 @@ impl<L: System, R: System> Aligned<'_, L, R> {
 /// A pass with the count of records where the relation is a late strong bisimulation between the systems, and else the
 /// first no.
 pub fn judge<'a, L: System, R: System>(
-    _heap: Global,
+    heap: Global,
     left: &'a L,
     right: &'a R,
     relation: &'a [Pair],
@@ -91,8 +119,9 @@ pub fn judge<'a, L: System, R: System>(
     if relation.len() > MOST {
         return Err(Fault::TooMany);
     }
+    let index = Index::make(heap, relation).ok();
     for (k, pair) in relation.iter().enumerate() {
-        aligned.judge_pair(k, pair)?;
+        aligned.judge_pair(heap, &index, k, pair)?;
     }
     Ok(Pass {
         count: relation.len(),
