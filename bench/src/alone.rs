@@ -19,6 +19,8 @@ pub struct Done {
 pub struct Ran {
     /// The most memory before the first job was read.
     pub before: u64,
+    /// The processor time that it had had when the time was over.
+    pub spent: Duration,
     pub done: Vec<Done>,
 }
 
@@ -27,6 +29,13 @@ fn peak_kib() -> Result<u64, String> {
     let status = std::fs::read_to_string("/proc/self/status").map_err(|error| error.to_string())?;
     let line = status.lines().find_map(|line| line.strip_prefix("VmHWM:")).ok_or("no VmHWM")?;
     line.trim().trim_end_matches(" kB").parse().map_err(|_| format!("VmHWM is {line}"))
+}
+
+/// The processor time of the first thread of a process, the one that judges there.
+fn spent_by(process: u32) -> Result<Duration, String> {
+    let times = std::fs::read_to_string(format!("/proc/{process}/schedstat")).map_err(|error| error.to_string())?;
+    let nanos = times.split(' ').next().and_then(|nanos| nanos.parse().ok());
+    nanos.map(Duration::from_nanos).ok_or(format!("the times of a process are {times}"))
 }
 
 /// The process itself.
@@ -65,6 +74,7 @@ pub fn run(jobs: &[Job], limit: Duration) -> Result<Ran, String> {
     let output = BufReader::new(child.stdout.take().ok_or("no pipe")?);
     let (sender, receiver) = channel();
     let mut lines = Vec::new();
+    let mut spent = Duration::ZERO;
     std::thread::scope(|scope| {
         // both threads end with the process, the first one by a broken pipe
         scope.spawn(move || {
@@ -80,12 +90,14 @@ pub fn run(jobs: &[Job], limit: Duration) -> Result<Ran, String> {
         }
         let is_over = Instant::now() >= end;
         if is_over {
+            let time = spent_by(child.id());
             child.kill().map_err(failed)?;
+            spent = time?;
         }
         let status = child.wait().map_err(failed)?;
         if is_over || status.success() { Ok(()) } else { Err(format!("the proved judge's process ended: {status}")) }
     })?;
     let mut done = lines.iter().map(|line| read(line).ok_or(format!("the proved judge's process said {line}")));
     let before = done.next().ok_or("the proved judge's process did not begin")??.peak;
-    Ok(Ran { before, done: done.collect::<Result<_, _>>()? })
+    Ok(Ran { before, spent, done: done.collect::<Result<_, _>>()? })
 }

@@ -131,7 +131,7 @@ fn measure(settings: &Settings, family: &'static Family) -> Result<Measured, Fai
         plain,
         proved: match ran.done.len() {
             _ if is_whole => Side::Whole(proved),
-            0 => Side::NoJob(settings.limit),
+            0 => Side::NoJob(ran.spent),
             done => Side::Part(spent, done),
         },
         before: ran.before,

@@ -12,7 +12,7 @@ pub enum Side {
     Whole(Duration),
     /// The time was over after so many jobs, which took this long. The numbers of the plain side are of these jobs too.
     Part(Duration, usize),
-    /// The time was over before the first job was done.
+    /// The time was over before the first job was done, which had taken this long by then.
     NoJob(Duration),
 }
 
