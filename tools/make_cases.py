@@ -1,9 +1,11 @@
 #!/usr/bin/env python3
-"""Writes the cases into target/cases: framed jobs in stdin, expected lines in stdout.
+"""Writes the cases of the program cases: framed jobs in stdin, expected lines in stdout.
 
 Each job is a length of four bytes, low byte first, and then the job. Each line
 has the number of the job from 0, a space, and the reference judge's verdict in
-hexadecimal digits. With --list the cases are only listed, with their names.
+hexadecimal digits. They go into crates/cases, without the changes of a job that
+take the judge long; with --all every case goes into target/cases. With --list
+the cases are only listed, with their names.
 """
 
 import sys
@@ -21,7 +23,9 @@ from cases.relations import shapes
 from cases.states import state_cases
 from reference import LEFT, RIGHT, verdict
 
-CASES = Path(__file__).resolve().parent.parent / "target" / "cases"
+ROOT = Path(__file__).resolve().parent.parent
+KEPT = ROOT / "crates" / "cases"
+ALL = ROOT / "target" / "cases"
 SEED = 1
 
 # Questions that tell a side, and all others; 0 stands for accepted.
@@ -30,6 +34,9 @@ UNSIDED = (0, 10, 12, 13, 14, 15, 16, 22, 23)
 FEWEST_CASES = 330
 MOST_BYTES = 3_000_000
 MOST_SECONDS = 20
+
+# A change of an accepted job that takes longer than this is left out of crates/cases.
+MOST_SECONDS_OF_A_CHANGE = 0.01
 
 
 def shape_cases() -> list:
@@ -107,6 +114,24 @@ def report(verdicts: list, stdin: bytes, total: Cost) -> None:
     print(f"estimated time of the proved judge: {total.seconds():.1f} s")
 
 
+def is_kept(each, its_cost: Cost) -> bool:
+    """Every shape is kept, and of its changes those that are judged soon."""
+    is_change = "; " in each.name
+    return not is_change or its_cost.seconds() <= MOST_SECONDS_OF_A_CHANGE
+
+
+def write(folder: Path, cases: list, verdicts: list, costs: list) -> None:
+    stdin = framed(cases)
+    total = Cost()
+    for its_cost in costs:
+        total = total.plus(its_cost)
+    check(verdicts, stdin, total)
+    folder.mkdir(parents=True, exist_ok=True)
+    (folder / "stdin").write_bytes(stdin)
+    (folder / "stdout").write_text(lines(verdicts), encoding="ascii")
+    report(verdicts, stdin, total)
+
+
 def main(arguments: list) -> None:
     cases = all_cases()
     verdicts = judged(cases)
@@ -114,15 +139,12 @@ def main(arguments: list) -> None:
         for number, (each, told) in enumerate(zip(cases, verdicts)):
             print(number, told.hex(), each.name)
         return
-    stdin = framed(cases)
-    total = Cost()
-    for each in cases:
-        total = total.plus(cost(each.data))
-    check(verdicts, stdin, total)
-    CASES.mkdir(parents=True, exist_ok=True)
-    (CASES / "stdin").write_bytes(stdin)
-    (CASES / "stdout").write_text(lines(verdicts), encoding="ascii")
-    report(verdicts, stdin, total)
+    costs = [cost(each.data) for each in cases]
+    if arguments == ["--all"]:
+        write(ALL, cases, verdicts, costs)
+        return
+    kept = [row for row in zip(cases, verdicts, costs) if is_kept(row[0], row[2])]
+    write(KEPT, *map(list, zip(*kept)))
 
 
 if __name__ == "__main__":

@@ -1,7 +1,7 @@
 // The start of an input, as far as there is room for it.
 #![tactic(auto)]
 
-ghost use Rattle.std.specs.Prelude.{ℕ, ◌≤◌, ◌<◌, length, take, IfOk, OnErr};
+ghost use Rattle.std.specs.Prelude.{◌≡◌, ℕ, ◌≤◌, ◌<◌, false, List, length, take, IfOk, OnErr, IsTrue};
 ghost use Rattle.std.specs.Io.KnownBytes.{Consumes, IsAtEnd};
 
 use std::io;
@@ -24,4 +24,25 @@ pub fn fill<R: Read>(input: &mut R, buffer: &mut [u8]) -> io::Result<usize>
         }
     }
     Ok(filled)
+}
+
+/// How many bytes are passed over at once.
+const PART: usize = 4096;
+
+/// Reads and passes over so many bytes, and answers whether they were there before the input ended.
+pub fn skip<R: Read>(input: &mut R, count: usize) -> io::Result<bool>
+    ensures skipped { IfOk result (λ all. IsTrue all → (bytes : List ℕ) × Consumes (R.Read.remaining input.old) (R.Read.remaining input.new) bytes × (length bytes ≡ count)) }
+    ensures end { IfOk result (λ all. all ≡ false → IsAtEnd (R.Read.remaining input.new)) }
+{
+    let mut part = [0; PART];
+    let mut left = count;
+    while left > 0 {
+        let wanted = left.min(PART);
+        let read = fill(input, &mut part[..wanted])?;
+        if read < wanted {
+            return Ok(false);
+        }
+        left -= read;
+    }
+    Ok(true)
 }
