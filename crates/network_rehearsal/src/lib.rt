@@ -2,11 +2,8 @@
 // calculus.
 #![tactic(auto)]
 
-ghost use Rattle.judge.specs.Comparing.{comparing};
-ghost use Rattle.network.specs.Meanings.{network_meaning};
 ghost use Rattle.rehearsal.specs.Law.{Law};
-ghost use Rattle.ways.specs.Nets.{net_of};
-ghost use Rattle.network_rehearsal.specs.Exact.{ExactSteps};
+ghost use Rattle.network_rehearsal.specs.Exact.{networks_of, ExactSteps};
 
 use judge::comparison::Comparison;
 use network::network::Network;
@@ -27,9 +24,9 @@ pub fn rehearse_networks<P: Rule, Q: Rule>(
     pair: usize,
     attempts: &mut [Attempt],
 ) -> Result<Play, RehearsalFault>
-    ensures law { Law (comparing (network_meaning (net_of comparison.now.left.now.table) (P.Rule.allowed comparison.now.left.now.rule)) (network_meaning (net_of comparison.now.right.now.table) (Q.Rule.allowed comparison.now.right.now.rule)) comparison.now.relation.now) pair attempts.old attempts.new result }
-    ensures left_exact { ExactSteps (net_of comparison.now.left.now.table) (P.Rule.allowed comparison.now.left.now.rule) }
-    ensures right_exact { ExactSteps (net_of comparison.now.right.now.table) (Q.Rule.allowed comparison.now.right.now.rule) }
+    ensures law { Law (networks_of P.Rule.allowed Q.Rule.allowed comparison.now) pair attempts.old attempts.new result }
+    ensures left_exact { ExactSteps P.Rule.allowed comparison.now.left.now }
+    ensures right_exact { ExactSteps Q.Rule.allowed comparison.now.right.now }
 {
     rehearse(heap, comparison, pair, attempts)
 }

@@ -84,7 +84,8 @@ fn a_play_between_networks(rt: HostRuntime) -> Result<(), Fail> {
         relation: &relation,
     };
     let pass = judge(heap, &network, &network, &relation)?;
-    let play = Level::begin(&pass, 0)?.challenge(&comparison, RIGHT, 0)?;
+    let level = Level::begin(&pass, 0)?;
+    let play = level.challenge(&comparison, RIGHT, 0)?;
     assert_eq!(rt; play.pair(), 0);
     assert_eq!(rt; play.side(), RIGHT);
     assert_eq!(rt; play.step(), 0);
@@ -92,7 +93,7 @@ fn a_play_between_networks(rt: HostRuntime) -> Result<(), Fail> {
     assert_eq!(rt; play.pair(), 0);
     assert_eq!(rt; play.side(), RIGHT);
     assert_eq!(rt; play.step(), 0);
-    assert_eq!(rt; play.reply(), 0);
+    assert_eq!(rt; play.reply_step(), 0);
     // A broadcast lands alike at every value, so no value is out of range for it.
     let play = play.settle(&comparison, 100)?;
     assert_eq!(rt; play.pair(), 1);
@@ -131,7 +132,7 @@ fn a_receive_is_refused_a_value_out_of_range(rt: HostRuntime) -> Result<(), Fail
         .err()
         .ok_or("taken")?;
     assert_eq!(rt; refused.fault, Fault::Value);
-    assert_eq!(rt; refused.play.reply(), 0);
+    assert_eq!(rt; refused.play.reply_step(), 0);
     // The play goes on from where it was.
     assert_eq!(rt; refused.play.settle(&comparison, 1)?.pair(), 1);
     Ok(())
@@ -169,32 +170,74 @@ fn challenges_that_are_refused(rt: HostRuntime) -> Result<(), Fail> {
 }
 
 #[test]
-fn a_reply_and_a_settle_look_at_the_relation_they_are_handed(rt: HostRuntime) -> Result<(), Fail> {
+fn replies_and_settles_that_are_refused(rt: HostRuntime) -> Result<(), Fail> {
     let heap = rt.alloc();
-    let network = network(heap, 2)?;
+    let (wide, narrow) = (network(heap, 2)?, network(heap, 1)?);
     let relation = [alike(0, 1), alike(1, 1)];
+    // In the second one the present pair has no steps; in the third it has, but their landings are no record.
+    let done = [alike(1, 1), alike(0, 1)];
+    let full = vec![in heap; alike(0, 1); 4097]?;
     let whole = Comparison {
-        left: &network,
-        right: &network,
+        left: &wide,
+        right: &wide,
         relation: &relation,
     };
-    let short = Comparison {
-        relation: &relation[..1],
-        ..whole
+    let pass = judge(heap, &wide, &wide, &relation)?;
+    let cases: [(&Network<Tuner>, &[Pair], Fault, Fault); 5] = [
+        (&narrow, &full, Fault::Ranges, Fault::Ranges),
+        (&wide, &full, Fault::TooMany, Fault::TooMany),
+        (&wide, &[], Fault::NoPair, Fault::NoPair),
+        (&wide, &done, Fault::NoStep, Fault::NoStep),
+        (&wide, &relation[..1], Fault::NoReply, Fault::Landings),
+    ];
+    for (right, relation, at_reply, at_settle) in cases {
+        let comparison = Comparison {
+            left: &wide,
+            right,
+            relation,
+        };
+        let challenged = Level::begin(&pass, 0)?.challenge(&whole, LEFT, 0)?;
+        let refused = challenged.reply(&comparison).err().ok_or("taken")?;
+        assert_eq!(rt; refused.fault, at_reply);
+        assert_eq!(rt; refused.play.step(), 0);
+        let answered = refused.play.reply(&whole)?;
+        let refused = answered.settle(&comparison, 0).err().ok_or("taken")?;
+        assert_eq!(rt; refused.fault, at_settle);
+        assert_eq!(rt; refused.play.settle(&whole, 0)?.pair(), 1);
+    }
+    Ok(())
+}
+
+/// In state 0 send 1 twice, to state 1; or, with other bytes, to state 2.
+const fn sends(to: u8) -> [u8; 12] {
+    [0, 2, 1, 1, to, to, 0, 2, 1, 1, to, to]
+}
+
+#[test]
+fn the_first_reply_and_the_first_record(rt: HostRuntime) -> Result<(), Fail> {
+    let heap = rt.alloc();
+    let range = Range::new(-2, 2)?;
+    let channels = GroupSet { bits: 1 };
+    let left = Sheet::load(heap, range, channels, &sends(1))?;
+    let right = Sheet::load(heap, range, channels, &sends(2))?;
+    let start = alike(0, 0);
+    let end = Pair {
+        left: state(1, 0),
+        right: state(2, 0),
     };
-    let pass = judge(heap, &network, &network, &relation)?;
-    let challenged = Level::begin(&pass, 0)?.challenge(&whole, LEFT, 0)?;
-    let refused = challenged.reply(&short).err().ok_or("taken")?;
-    assert_eq!(rt; refused.fault, Fault::NoReply);
-    assert_eq!(rt; refused.play.step(), 0);
-    let refused = refused
-        .play
-        .reply(&whole)?
-        .settle(&short, 0)
-        .err()
-        .ok_or("taken")?;
-    assert_eq!(rt; refused.fault, Fault::Landings);
-    assert_eq!(rt; refused.play.settle(&whole, 0)?.pair(), 1);
+    let relation = [start, end, start, end];
+    let comparison = Comparison {
+        left: &left,
+        right: &right,
+        relation: &relation,
+    };
+    let pass = judge(heap, &left, &right, &relation)?;
+    // It begins at the pair that it is given, though an equal one comes before.
+    let play = Level::begin(&pass, 2)?;
+    assert_eq!(rt; play.pair(), 2);
+    let play = play.challenge(&comparison, RIGHT, 1)?.reply(&comparison)?;
+    assert_eq!(rt; play.reply_step(), 0);
+    assert_eq!(rt; play.settle(&comparison, 0)?.pair(), 1);
     Ok(())
 }
 
@@ -259,5 +302,22 @@ fn no_call_is_made_without_a_play(rt: HostRuntime) -> Result<(), Fail> {
         .map(|fault| fault.refusal().question);
     assert_eq!(rt; not_accepted, Some(15));
     assert_eq!(rt; attempts[0].outcome, None);
+    Ok(())
+}
+
+#[test]
+fn faults_in_words(rt: HostRuntime) -> Result<(), Fail> {
+    let heap = rt.alloc();
+    let faults = [
+        RehearsalFault::NotAccepted(judge::fault::Fault::Ranges),
+        RehearsalFault::NotBegun(Fault::NoPair),
+    ];
+    let words = [
+        "the systems have different ranges",
+        "there is no pair with that number",
+    ];
+    for (fault, words) in faults.iter().zip(words) {
+        assert_eq!(rt; format!(in heap; "{fault}")?.as_str(), words);
+    }
     Ok(())
 }

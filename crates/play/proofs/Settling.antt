@@ -1,7 +1,7 @@
 -- What settle answers, from what its exits know. Assumes nothing.
-use Rattle.std.proofs.Common.{◌≡◌, ℕ, Bool, true, false, cond, List, [], ◌∷◌, length, ℤ, nat_le, nat_lt, Some, None, Ok, Err, Option, Result, sym, refl, ap, ◌∙◌, subst, arith}
+use Rattle.std.proofs.Common.{◌≡◌, ℕ, Bool, true, false, cond, List, [], ◌∷◌, length, ℤ, nat_le, nat_lt, is_none, Some, None, Ok, Err, Option, Result, sym, refl, ap, ◌∙◌, subst, arith}
 use Rattle.std.specs.List.{slice_get}
-use Rattle.std.proofs.lemmas.Bool.{ltb-true, false_from_ne_true}
+use Rattle.std.proofs.lemmas.Bool.{ltb-true, false_from_ne_true, false≢true}
 use Rattle.std.proofs.lemmas.Int.{ints}
 use Rattle.lists.specs.Words.{Stands, FirstOf}
 use Rattle.lists.proofs.Places.{some_same, some_none, nth_here}
@@ -40,13 +40,18 @@ module _ (c : Compared) (l : Label) (range : Range) (lo : range.lo ≡ c.left.lo
   value_there : (w : ℤ) → ValueFor l range u (Some w) → w ≡ value_by c l v
   value_there w h = h.0 ∙ ap (λ b. cond (receives l) b range.lo) same ∙ ap (λ b. cond (receives l) v b) lo
 
+label_there : (o : Option Label) → is_none o ≡ false → (k : Label) × (o ≡ Some k)
+label_there None e = absurd (false≢true (sym e))
+label_there (Some k) e = (k, refl)
+
 -- the two steps of a play are there
-module _ (c : Compared) (play : Answered) (v : ℤ) (yes : None ≡ first_no (challenge_asked c play.pair play.side play.step)) (p : Pair) (l k : Label) (p-at : Stands c.relation p play.pair)
-    (labeled : label_on play.side c p play.step ≡ Some l) (opp : Side) (opp-is : opp ≡ opposed play.side) (other : label_on opp c p play.reply ≡ Some k) where
+module _ (c : Compared) (play : Answered) (v : ℤ) (yes : None ≡ first_no (challenge_asked c play.pair play.side play.step)) (p : Pair) (l : Label) (seen : Option Label) (p-at : Stands c.relation p play.pair)
+    (labeled : label_on play.side c p play.step ≡ Some l) (opp : Side) (opp-is : opp ≡ opposed play.side) (other : seen ≡ label_on opp c p play.reply) (there : is_none seen ≡ false) where
   told_rest : first_no (told_asked c play v (λ _ _. [])) ≡ cond (value_fits c l v) None (Some (refuse 20))
   told_rest =
       let x = label_some (slice_get (steps_on play.side c p) play.step) l labeled in
-      let y = label_some (slice_get (steps_on (opposed play.side) c p) play.reply) k (ap (λ s. label_on s c p play.reply) (sym opp-is) ∙ other) in
+      let k = label_there seen there in
+      let y = label_some (slice_get (steps_on (opposed play.side) c p) play.reply) k.0 (ap (λ s. label_on s c p play.reply) (sym opp-is) ∙ sym other ∙ k.1) in
       then_asked c play.pair play.side play.step yes p x.0 (λ q z. step_asked (steps_on (opposed play.side) c q) play.reply (λ w. put (refuse 20) (value_fits c z.label v) ∷ [])) p-at x.1
       ∙ step_there (steps_on (opposed play.side) c p) play.reply y.0 (λ w. put (refuse 20) (value_fits c x.0.label v) ∷ []) y.1
       ∙ ap (λ m. cond (value_fits c m v) None (Some (refuse 20))) x.2

@@ -1,5 +1,5 @@
 -- The calls of a play: what each asks, and what it gives.
-use Rattle.std.specs.Prelude.{◌≡◌, ℕ, Bool, true, false, cond, ◌&&◌, List, [], ◌∷◌, length, ℤ, IfOk, IfErr, Some, None, Option, Result, MatchOption, nat_le, nat_lt, codes}
+use Rattle.std.specs.Prelude.{◌≡◌, ℕ, Bool, true, false, cond, List, [], ◌∷◌, length, ℤ, IfOk, IfErr, Some, None, Option, Result, MatchOption, nat_le, nat_lt, codes}
 use Rattle.std.specs.List.{slice_get}
 use Rattle.lists.specs.Words.{Stands, FirstOf}
 use Rattle.questions.specs.Asking.{Question, put, ask, refuse, first_no, refusal_of}
@@ -21,6 +21,7 @@ use Rattle.play.specs.declared.fault.Fault.TheVariants.{Ranges, TooMany, NoPair,
 use Rattle.play.specs.declared.fault.Refused.{Refused}
 use Rattle.play.specs.declared.level.Level.{Level}
 
+-- the no that a fault stands for: each has the number of its question, and no other numbers
 abbrev pub play_refusal : Fault → Option Refusal
 play_refusal Ranges = Some (refuse 10)
 play_refusal TooMany = Some (refuse 11)
@@ -44,7 +45,7 @@ fault_text NoReply = codes "the step has no reply"
 fault_text Value = codes "the received value is out of range"
 fault_text Landings = codes "the landings are no pair of the relation"
 
--- the questions f to what there is
+-- the questions f about x; none where there is no x
 abbrev pub if_there : {X A : Type 0} → (X → List (Question A)) → Option X → List (Question A)
 if_there f None = []
 if_there f (Some x) = f x
@@ -80,7 +81,7 @@ reply_asked c play =
 abbrev pub value_by : Compared → Label → ℤ → ℤ
 value_by c l v = cond (receives l) v c.left.lo
 
--- a value told to a receive is in range
+-- v is in range, or is not used because l is no receive
 abbrev pub value_fits : Compared → Label → ℤ → Bool
 value_fits c l v = cond (receives l) (in_range_of c.left v) true
 
@@ -96,7 +97,8 @@ told_asked c play v f =
     step_asked (steps_on (opposed play.side) c p) play.reply (λ y.
     put (refuse 20) (value_fits c x.label v) ∷ f x y)))
 
--- settle: are both landings there, and is their pair in the relation?
+-- settle: are both landings there, and is their pair in the relation? Both are there after a yes to 10, 18 and 20, since lo is
+-- in range.
 abbrev pub settle_asked : Compared → Answered → ℤ → List (Question Refusal)
 settle_asked c play v = told_asked c play v (λ x y. ask (refuse 21) (holds c.relation (landings_by c play.side x y v)))
 
@@ -117,21 +119,25 @@ OfSteps c play P =
 abbrev pub HandsBack : {P X : Type 0} → P → Result X (Refused P) → Type 0
 HandsBack play r = IfErr r (λ e. e.play ≡ play)
 
+-- a pass of a relation, and a pair number: a level play at that pair, or the first no
 pub record Begins (pass : Pass) (k : ℕ) (r : Result Level Fault) : Type 0 where
   pub refuses : refusal_of play_refusal r ≡ first_no (begin_asked pass.count k)
   pub stands : IfOk r (λ next. next.pair ≡ k)
 
+-- a level play becomes a challenged one, at the same pair
 pub record Challenges (c : Compared) (play : Level) (side : Side) (i : ℕ) (r : Result Challenged (Refused Level)) : Type 0 where
   pub refuses : refusal_of refused_refusal r ≡ first_no (challenge_asked c play.pair side i)
   pub hands_back : HandsBack play r
   pub stands : IfOk r (λ next. (next.pair ≡ play.pair) × (next.side ≡ side) × (next.step ≡ i))
 
+-- a challenged play becomes an answered one, with the first reply in list order
 pub record Replies (c : Compared) (play : Challenged) (r : Result Answered (Refused Challenged)) : Type 0 where
   pub refuses : refusal_of refused_refusal r ≡ first_no (reply_asked c play)
   pub hands_back : HandsBack play r
   pub stands : IfOk r (λ next. (next.pair ≡ play.pair) × (next.side ≡ play.side) × (next.step ≡ play.step))
   pub first : IfOk r (λ next. Present c play.pair (λ p. FirstReply c play.side p play.step next.reply))
 
+-- an answered play becomes a level one, at the first record equal to both landings
 pub record Settles (c : Compared) (play : Answered) (v : ℤ) (r : Result Level (Refused Answered)) : Type 0 where
   pub refuses : refusal_of refused_refusal r ≡ first_no (settle_asked c play v)
   pub hands_back : HandsBack play r

@@ -64,8 +64,8 @@ impl Answered {
         self.step
     }
 
-    /// The number of the reply.
-    pub fn reply(&self) -> u64
+    /// The number of the step that is the reply.
+    pub fn reply_step(&self) -> u64
         ensures { result ≡ self.now.reply }
     {
         self.reply
@@ -83,14 +83,17 @@ impl Answered {
     {
         let held = find_step(comparison, self.pair, self.side, self.step)?;
         let pair = held.pair;
-        comparison
+        if comparison
             .label(opposite(self.side), pair, self.reply)
-            .ok_or(Fault::NoStep)?;
+            .is_none()
+        {
+            return Err(Fault::NoStep);
+        }
         let value = value_for(&held.label, &comparison.left.range(), value).ok_or(Fault::Value)?;
         Ok(Told { pair, value })
     }
 
-    /// The first record equal to the landings of the two held steps.
+    /// The number of the first record equal to both landings; none if a step does not land or no record is equal.
     fn first_landing<L: System, R: System>(
         &self,
         comparison: &Comparison<'_, L, R>,

@@ -39,7 +39,7 @@ impl Challenged {
         self.step
     }
 
-    /// Fixes the first reply in list order, before any value is told. A value does not pass the check before the reply: call
+    /// Fixes the first reply in list order, before any value is told. A value told before the reply does not compile: call
     /// `reply` first.
     pub fn reply<L: System, R: System>(
         self,

@@ -58,3 +58,13 @@ pub struct Refused<P> {
     pub play: P,
     pub fault: Fault,
 }
+
+impl<P> fmt::Display for Refused<P> {
+    ghost output = { λ refused. Some (fault_text refused.fault) };
+
+    fn fmt<W: fmt::Write>(&self, f: &mut fmt::Formatter<W>) -> fmt::Result {
+        write!(f, "{}", self.fault)
+    }
+}
+
+impl<P: fmt::Debug + Drop> Error for Refused<P> {}

@@ -11,14 +11,14 @@ use questions::Side;
 use systems::System;
 
 /// A play that waits for a challenge, at a record of the relation.
-// Not `Copy`: a play goes on by being moved, so a call that comes out of turn does not pass the check.
+// Not `Copy`: a play goes on by being moved, so a call that comes out of turn does not compile.
 #[derive(Drop, Debug)]
 pub struct Level {
     pub(crate) pair: usize,
 }
 
 impl Level {
-    /// A play at a record of the relation that passed.
+    /// A level play at the pair with that number, if it is below the pass's count.
     pub fn begin(pass: &Pass, pair: usize) -> Result<Level, Fault>
         ensures { Begins pass.now pair result }
     {
@@ -36,8 +36,8 @@ impl Level {
         self.pair
     }
 
-    /// Names a step of the side's state of the present pair. A second challenge does not pass the check before the first is
-    /// settled: settle first.
+    /// Names a step of the side's state of the present pair. A second challenge before the first is settled does not
+    /// compile: settle first.
     pub fn challenge<L: System, R: System>(
         self,
         comparison: &Comparison<'_, L, R>,

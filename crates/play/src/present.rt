@@ -12,8 +12,8 @@ use model::state::Pair;
 use questions::Side;
 use systems::System;
 
-/// The record with that number, in a relation between systems of one range.
-fn present<'a, L: System, R: System>(
+/// Puts 10, 11 and 17: the record with that number, in a relation between systems of one range.
+fn present_record<'a, L: System, R: System>(
     comparison: &Comparison<'a, L, R>,
     number: usize,
 ) -> Result<&'a Pair, Fault>
@@ -45,7 +45,7 @@ pub(crate) fn find_step<'a, L: System, R: System>(
     ensures stands { IfOk result (λ held. Stands comparison.now.relation.now held.pair.now number) }
     ensures labeled { IfOk result (λ held. label_on side (meant L.System.means R.System.means comparison.now) held.pair.now step ≡ Some held.label) }
 {
-    let pair = present(comparison, number)?;
+    let pair = present_record(comparison, number)?;
     let label = comparison.label(side, pair, step).ok_or(Fault::NoStep)?;
     Ok(Held { pair, label })
 }

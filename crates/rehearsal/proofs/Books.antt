@@ -19,19 +19,20 @@ use Rattle.play.specs.Calls.{value_by, value_fits, landings_by, FirstReply}
 use Rattle.rehearsal.specs.declared.attempt.Attempt.{Attempt}
 use Rattle.rehearsal.specs.declared.attempt.Call.{Call}
 use Rattle.rehearsal.specs.declared.attempt.Call.TheVariants.{Challenge, Reply as AskReply, Settle}
-use Rattle.rehearsal.specs.Book.{Book, book, Stand, first_replying, first_reply, with_reply, settled, writes, written, book_after}
-use Rattle.rehearsal.specs.Book.Stand.{level, challenged, answered}
-use Rattle.rehearsal.specs.Law.{Keeping, Sound, Fixed}
+use Rattle.rehearsal.specs.Book.{Book, book, Phase, first_reply_from, first_reply, with_reply, book_after_settle, next_book, book_after_call, book_after}
+use Rattle.rehearsal.specs.Book.Phase.{level, challenged, answered}
+use Rattle.rehearsal.specs.Law.{FirstForAllValues}
+use Rattle.rehearsal.specs.Making.{Keeping, Sound}
 
 -- the first of the steps that replies, as it is searched for
 module _ (c : Compared) (side : Side) (x : Step) where
-  found : (k m : ℕ) (ys : List Step) (y : Step) → Stands ys y m → replies c side x y ≡ true → ((n : ℕ) (z : Step) → n < m → Stands ys z n → replies c side x z ≡ false) → first_replying c side x k ys ≡ Some (k + m)
+  found : (k m : ℕ) (ys : List Step) (y : Step) → Stands ys y m → replies c side x y ≡ true → ((n : ℕ) (z : Step) → n < m → Stands ys z n → replies c side x z ≡ false) → first_reply_from c side x k ys ≡ Some (k + m)
   found k m [] y at hit before = absurd (some_none _ _ at refl)
   found k zero (z ∷ ys) y at hit before =
       let s = some_same (Some z) z y refl at in
-      ap (λ b. cond b (Some k) (first_replying c side x (suc k) ys)) (ap (replies c side x) s ∙ hit) ∙ ap Some (let e : k ≡ k + 0 = omega arith in e)
+      ap (λ b. cond b (Some k) (first_reply_from c side x (suc k) ys)) (ap (replies c side x) s ∙ hit) ∙ ap Some (let e : k ≡ k + 0 = omega arith in e)
   found k (suc m) (z ∷ ys) y at hit before =
-      ap (λ b. cond b (Some k) (first_replying c side x (suc k) ys)) (before 0 z (omega arith) refl)
+      ap (λ b. cond b (Some k) (first_reply_from c side x (suc k) ys)) (before 0 z (omega arith) refl)
       ∙ found (suc k) m ys y at hit (λ n w h w-at. before (suc n) w (omega arith) w-at)
       ∙ ap Some (let e : suc k + m ≡ k + suc m = omega arith in e)
 
@@ -43,10 +44,10 @@ module _ (c : Compared) (side : Side) (x : Step) where
     pub yes : replies c side x step ≡ true
     pub before : (n : ℕ) (z : Step) → n < place → Stands ys z n → replies c side x z ≡ false
 
-  searched : (k : ℕ) (ys : List Step) (j : ℕ) → first_replying c side x k ys ≡ Some j → Searched k ys j
+  searched : (k : ℕ) (ys : List Step) (j : ℕ) → first_reply_from c side x k ys ≡ Some j → Searched k ys j
   searched k [] j e = absurd (some_none _ _ e refl)
   searched k (y ∷ ys) j e =
-      elim (replies c side x y) as (λ b. replies c side x y ≡ b → cond b (Some k) (first_replying c side x (suc k) ys) ≡ Some j → Searched k (y ∷ ys) j) [
+      elim (replies c side x y) as (λ b. replies c side x y ≡ b → cond b (Some k) (first_reply_from c side x (suc k) ys) ≡ Some j → Searched k (y ∷ ys) j) [
         | true ↦ (λ t f. record { place = 0; step = y; number = some_same (Some k) j k f refl ∙ (let z : k ≡ k + 0 = omega arith in z); at = refl; yes = t; before = λ n z h _. absurd (omega arith) })
         | false ↦ (λ t f.
             let s = searched (suc k) ys j f in
@@ -92,10 +93,10 @@ module _ (c : Compared) (one : OneRange c) (side : Side) (p : Pair) (i : ℕ) (x
   pub none_first : first_reply c side p (Some x) ≡ None → (j : ℕ) → Reply c side p i j → ⊥
   none_first e j r = never 0 (steps_on (opposed side) c p) j r.given r.given_at (reply_yes j r.given r.given_at r) e
     where
-      never : (k : ℕ) (ys : List Step) (m : ℕ) (y : Step) → Stands ys y m → replies c side x y ≡ true → first_replying c side x k ys ≡ None → ⊥
+      never : (k : ℕ) (ys : List Step) (m : ℕ) (y : Step) → Stands ys y m → replies c side x y ≡ true → first_reply_from c side x k ys ≡ None → ⊥
       never k [] m y at hit none = some_none _ _ at refl
       never k (z ∷ ys) m y at hit none =
-          elim (replies c side x z) as (λ b. replies c side x z ≡ b → cond b (Some k) (first_replying c side x (suc k) ys) ≡ None → ⊥) [
+          elim (replies c side x z) as (λ b. replies c side x z ≡ b → cond b (Some k) (first_reply_from c side x (suc k) ys) ≡ None → ⊥) [
             | true ↦ (λ _ f. some_none _ _ refl f)
             | false ↦ (λ t f. elim m as (λ q. slice_get (z ∷ ys) q ≡ Some y → ⊥) [
               | zero ↦ (λ w. false≢true (sym t ∙ ap (replies c side x) (some_same (Some z) z y refl w) ∙ hit))
@@ -127,17 +128,17 @@ module _ (c : Compared) (bis : Bisimulation c) (low : in_range_of c.left c.left.
       ] refl)
 
   sound_settle : (p : Pair) (e : Side) (i j : ℕ) (v : ℤ) → Holds c.relation p → FirstReply c e p i j
-      → Sound c (settled c (book p (answered e i j)) e (slice_get (steps_on e c p) i) (slice_get (steps_on (opposed e) c p) j) v)
+      → Sound c (book_after_settle c (book p (answered e i j)) e (slice_get (steps_on e c p) i) (slice_get (steps_on (opposed e) c p) j) v)
   sound_settle p e i j v h first =
       let r = first.0 in
-      subst (λ (o : Option Step). Sound c (settled c (book p (answered e i j)) e o (slice_get (steps_on (opposed e) c p) j) v)) (sym r.asked_at)
-      (subst (λ (o : Option Step). Sound c (settled c (book p (answered e i j)) e (Some r.asked) o v)) (sym r.given_at)
+      subst (λ (o : Option Step). Sound c (book_after_settle c (book p (answered e i j)) e o (slice_get (steps_on (opposed e) c p) j) v)) (sym r.asked_at)
+      (subst (λ (o : Option Step). Sound c (book_after_settle c (book p (answered e i j)) e (Some r.asked) o v)) (sym r.given_at)
       (elim (value_fits c r.asked.label v) as (λ b. value_fits c r.asked.label v ≡ b → Sound c (cond b (book (landings_by c e r.asked r.given v) level) (book p (answered e i j)))) [
         | true ↦ (λ t. record { held = r.lands (value_by c r.asked.label v) (value_within c r.asked.label v bis.one_range low t); keeping = tt })
         | false ↦ (λ _. record { held = h; keeping = first })
       ] refl))
 
-  sound_writes : (p : Pair) (s : Stand) (call : Call) → Holds c.relation p → Keeping c p s → Sound c (writes c p s call)
+  sound_writes : (p : Pair) (s : Phase) (call : Call) → Holds c.relation p → Keeping c p s → Sound c (next_book c p s call)
   sound_writes p level (Challenge side i) h k = sound_challenge p side i h
   sound_writes p level AskReply h k = record { held = h; keeping = tt }
   sound_writes p level (Settle v) h k = record { held = h; keeping = tt }
@@ -148,15 +149,28 @@ module _ (c : Compared) (bis : Bisimulation c) (low : in_range_of c.left c.left.
   sound_writes p (answered e i j) AskReply h k = record { held = h; keeping = k }
   sound_writes p (answered e i j) (Settle v) h k = sound_settle p e i j v h k
 
-  pub sound_written : (b : Book) (call : Call) → Sound c b → Sound c (written c b call)
-  sound_written b call s = sound_writes b.present b.stand call s.held s.keeping
+  -- a challenge that the book holds has a first reply, which its reply writes
+  pub reply_written : (p : Pair) (e : Side) (i : ℕ) → Holds c.relation p → i < length (steps_on e c p)
+      → (j : ℕ) × (with_reply e i (first_reply c e p (slice_get (steps_on e c p) i)) ≡ answered e i j) × FirstReply c e p i j
+  reply_written p e i h has =
+      let x = nth_here (steps_on e c p) i has in
+      let reply = (bis.each h.0 p h.1).answered e i has in
+      let there = elim (first_reply c e p (Some x.0)) as (λ o. first_reply c e p (Some x.0) ≡ o → (j : ℕ) × (first_reply c e p (Some x.0) ≡ Some j) × FirstReply c e p i j) [
+        | None ↦ (λ t. absurd (none_first c bis.one_range e p i x.0 x.1 t reply.0 reply.1))
+        | Some j ↦ (λ t. (j, t, is_first c bis.one_range e p i x.0 x.1 j t))
+      ] refl in
+      let whole = ap (first_reply c e p) x.1 ∙ there.1 in
+      (there.0, ap (with_reply e i) whole, there.2)
+
+  pub sound_after_call : (b : Book) (call : Call) → Sound c b → Sound c (book_after_call c b call)
+  sound_after_call b call s = sound_writes b.present b.phase call s.held s.keeping
 
   pub sound_after : (b : Book) (attempts : List Attempt) → Sound c b → Sound c (book_after c b attempts)
   sound_after b [] s = s
-  sound_after b (a ∷ attempts) s = sound_after (written c b a.call) attempts (sound_written b a.call s)
+  sound_after b (a ∷ attempts) s = sound_after (book_after_call c b a.call) attempts (sound_after_call b a.call s)
 
 -- a first reply is fixed for every value
-pub fixed_first : (c : Compared) (side : Side) (p : Pair) (i j : ℕ) → FirstReply c side p i j → Fixed c side p i j
+pub fixed_first : (c : Compared) (side : Side) (p : Pair) (i j : ℕ) → FirstReply c side p i j → FirstForAllValues c side p i j
 fixed_first c side p i j first =
     let r = first.0 in
     record {

@@ -10,7 +10,8 @@ use Rattle.judge.specs.Judged.{judge_asked, judge_refusal, Judged}
 use Rattle.judge.specs.declared.fault.Fault.{Fault as JudgeFault}
 use Rattle.judge.specs.declared.verdict.Pass.{Pass}
 use Rattle.judge.proofs.Exactly.{none_bisimulation}
-use Rattle.lists.specs.Words.{Stands}
+use Rattle.lists.specs.Words.{through, Stands}
+use Rattle.lists.proofs.Places.{nth_here}
 use Rattle.model.specs.declared.state.Pair.{Pair}
 use Rattle.play.specs.Calls.{play_refusal, begin_asked, Begins}
 use Rattle.play.specs.declared.fault.Fault.{Fault}
@@ -19,6 +20,8 @@ use Rattle.rehearsal.specs.declared.attempt.Attempt.{Attempt}
 use Rattle.rehearsal.specs.declared.fault.RehearsalFault.{RehearsalFault}
 use Rattle.rehearsal.specs.declared.fault.RehearsalFault.TheVariants.{NotAccepted, NotBegun}
 use Rattle.rehearsal.specs.declared.playing.Play.{Play}
+use Rattle.rehearsal.specs.Book.{book}
+use Rattle.rehearsal.specs.Book.Phase.{level}
 use Rattle.rehearsal.specs.Law.{Plays, Law}
 use Rattle.rehearsal.proofs.Following.{runs_matched}
 use Rattle.rehearsal.proofs.Making.{taken_yes, refused_no}
@@ -57,15 +60,16 @@ module _ (c : Compared) (pair : ℕ) (old now : List Attempt) (r : Result Play R
           runs = runs_matched c;
         })
 
-    pub begun : (l : Level) (play : Play) → r ≡ Ok play → Begins pass pair (Ok l) → ((p : Pair) → Stands c.relation p pair → Plays c p old now play) → Law c pair old now r
+    pub begun : (l : Level) (play : Play) → r ≡ Ok play → Begins pass pair (Ok l) → ((p : Pair) → Stands c.relation p pair → Plays c pair (book p level) old now play) → Law c pair old now r
     begun l play e b plays =
         let asked = b.refuses ∙ ap (λ n. first_no (begin_asked n pair)) j.counts in
         let below = ltb-true pair (length c.relation) (taken_yes (nat_lt pair (length c.relation)) (refuse 17) asked) in
+        let p = nth_here c.relation pair below in
         subst (λ (x : Result Play RehearsalFault). Law c pair old now x) (sym e) (record {
           accepts = (λ _. bisimulation, λ _. refl);
           refuses = then_of None (judge_asked c) (begin_asked (length c.relation) pair) j.refuses asked;
           begin_refused = λ _. (λ t. absurd (false≢true t), λ h. absurd (omega (arith, h, below)));
           not_played = tt;
-          plays = plays;
+          plays = (book p.0 level, ap (through (λ q. book q level)) p.1, plays p.0 p.1);
           runs = runs_matched c;
         })

@@ -28,12 +28,13 @@ use Rattle.rehearsal.specs.declared.attempt.Call.{Call}
 use Rattle.rehearsal.specs.declared.attempt.Call.TheVariants.{Challenge, Reply, Settle}
 use Rattle.rehearsal.specs.declared.attempt.Outcome.{Outcome}
 use Rattle.rehearsal.specs.declared.attempt.Outcome.TheVariants.{Taken, Refused, OutOfTurn}
-use Rattle.rehearsal.specs.declared.make.Made.{Made}
+use Rattle.rehearsal.specs.declared.make.AfterCall.{AfterCall}
 use Rattle.rehearsal.specs.declared.playing.Play.{Play}
 use Rattle.rehearsal.specs.declared.playing.Play.TheVariants.{Level, Challenged, Answered}
-use Rattle.rehearsal.specs.Book.{Book, book, Stand, first_reply, with_reply, settled, settle_outcome, writes, outcome, Agrees}
-use Rattle.rehearsal.specs.Book.Stand.{level, challenged, answered}
-use Rattle.rehearsal.specs.Law.{Keeping, Sound, Next, AtFirst, KeepsBook, made_taken, made_refused, not_made}
+use Rattle.rehearsal.specs.Book.{Book, book, Phase, first_reply, with_reply, book_after_settle, settle_outcome, next_book, outcome, InPhase, Agrees}
+use Rattle.rehearsal.specs.Book.Phase.{level, challenged, answered}
+use Rattle.rehearsal.specs.Law.{IsTakenSettle}
+use Rattle.rehearsal.specs.Making.{Keeping, Sound, Next, KeepsBook, after_taken, after_refused, after_out_of_turn}
 use Rattle.rehearsal.proofs.Books.{first_is, value_within}
 
 pub low_within : (c : Compared) → Keeps c.left → in_range_of c.left c.left.lo ≡ true
@@ -73,6 +74,18 @@ pub refused_no : (b : Bool) (t : Refusal) (f : Fault) → play_refusal f ≡ con
 refused_no true t f e = absurd (refusal_some f e)
 refused_no false t f e = (refl, e)
 
+no_settle_challenge : (side : Side) (i : ℕ) (v : ℤ) → Challenge side i ≡ Settle v → ⊥
+no_settle_challenge side i v e = let z : ◌≡◌ {A = ℕ} 0 1 = cc in omega arith
+
+no_settle_reply : (v : ℤ) → Reply ≡ Settle v → ⊥
+no_settle_reply v e = let z : ◌≡◌ {A = ℕ} 0 1 = cc in omega arith
+
+no_refused_settle : (f : Fault) → Some (Refused f) ≡ Some Taken → ⊥
+no_refused_settle f e = let z : ◌≡◌ {A = ℕ} 0 1 = cc in omega arith
+
+no_settle_out_of_turn : {X : Type 0} → Some OutOfTurn ≡ Some Taken → X
+no_settle_out_of_turn e = let z : ◌≡◌ {A = ℕ} 0 1 = cc in absurd (omega arith)
+
 -- nothing more is asked
 nothing_there : (o : Option Step) → first_no (if_there {A = Refusal} (λ _. []) o) ≡ None
 nothing_there None = refl
@@ -89,22 +102,30 @@ module _ (c : Compared) (bis : Bisimulation c) where
         present l.pair p (λ q. step_asked (steps_on side c q) i (λ _. [])) at
         ∙ ap (λ o. cond (nat_lt i (length (steps_on side c p))) o (Some (refuse 18))) (nothing_there (slice_get (steps_on side c p) i))
 
-    challenge_ok : (next : ChallengedPlay) → Challenges c l side i (Ok next) → Next c (book p level) (Challenge side i) (made_taken (Challenged next))
+    challenge_ok : (next : ChallengedPlay) → Challenges c l side i (Ok next) → Next c (Level l) (book p level) (Challenge side i) (after_taken (Challenged next))
     challenge_ok next h =
         let here = taken_yes _ _ (h.refuses ∙ challenge_left) in
         record {
-          agrees = (ap (λ b. cond b (challenged side i) level) here ∙ (let s : challenged side i ≡ challenged next.side next.step = cc in s), subst (λ (k : ℕ). Stands c.relation p k) (sym h.stands.0) at);
+          agrees = record {
+            in_phase = ap (λ b. cond b (challenged side i) level) here ∙ (let s : challenged side i ≡ challenged next.side next.step = cc in s);
+            record_equal = subst (λ (k : ℕ). Stands c.relation p k) (sym h.stands.0) at;
+          };
           went = sym (ap (λ b. cond b Taken (Refused NoStep)) here);
-          first = λ v e _. let z : ◌≡◌ {A = ℕ} 0 1 = cc in absurd (omega arith);
+          first = λ s. absurd (no_settle_challenge side i s.0 s.1);
+          kept = λ _. (h.stands.0, refl);
         }
 
-    challenge_err : (e : RefusedCall LevelPlay) → Challenges c l side i (Err e) → Next c (book p level) (Challenge side i) (made_refused (Level e.play) e.fault)
+    challenge_err : (e : RefusedCall LevelPlay) → Challenges c l side i (Err e) → Next c (Level l) (book p level) (Challenge side i) (after_refused (Level e.play) e.fault)
     challenge_err e h =
         let no = refused_no _ _ e.fault (h.refuses ∙ challenge_left) in
         record {
-          agrees = (ap (λ b. cond b (challenged side i) level) no.0, subst (λ (o : LevelPlay). Stands c.relation p o.pair) (sym h.hands_back) at);
+          agrees = record {
+            in_phase = ap (λ b. cond b (challenged side i) level) no.0;
+            record_equal = subst (λ (o : LevelPlay). Stands c.relation p o.pair) (sym h.hands_back) at;
+          };
           went = ap Refused (fault_is e.fault NoStep no.1) ∙ sym (ap (λ b. cond b Taken (Refused NoStep)) no.0);
-          first = λ v q _. let z : ◌≡◌ {A = ℕ} 0 1 = cc in absurd (omega arith);
+          first = λ s. absurd (no_settle_challenge side i s.0 s.1);
+          kept = λ _. (ap (λ o. o.pair) h.hands_back, refl);
         }
 
   -- reply
@@ -117,15 +138,16 @@ module _ (c : Compared) (bis : Bisimulation c) where
         ∙ step_there (steps_on l.side c p) l.step x.0 (λ z. ask (refuse 19) (has_reply c l.side z (steps_on (opposed l.side) c p))) x.1
         ∙ ask_none (refuse 19) _ ((decides_answered c l.side bis.one_range p l.step x.0 x.1).1 answered)
 
-    reply_ok : (next : AnsweredPlay) → Replies c l (Ok next) → Next c (book p (challenged l.side l.step)) Reply (made_taken (Answered next))
+    reply_ok : (next : AnsweredPlay) → Replies c l (Ok next) → Next c (Challenged l) (book p (challenged l.side l.step)) Reply (after_taken (Answered next))
     reply_ok next h =
         let x = nth_here (steps_on l.side c p) l.step has in
         let there = ap (first_reply c l.side p) x.1 ∙ first_is c bis.one_range l.side p l.step x.0 x.1 next.reply (h.first p at) in
         let s : answered l.side l.step next.reply ≡ answered next.side next.step next.reply = let a = h.stands in cc in
         record {
-          agrees = (ap (with_reply l.side l.step) there ∙ s, subst (λ (k : ℕ). Stands c.relation p k) (sym h.stands.0) at);
+          agrees = record { in_phase = ap (with_reply l.side l.step) there ∙ s; record_equal = subst (λ (k : ℕ). Stands c.relation p k) (sym h.stands.0) at };
           went = refl;
-          first = λ v e _. let z : ◌≡◌ {A = ℕ} 0 1 = cc in absurd (omega arith);
+          first = λ s. absurd (no_settle_reply s.0 s.1);
+          kept = λ _. (h.stands.0, refl);
         }
 
     reply_err : {P : Type 0} (e : RefusedCall ChallengedPlay) → Replies c l (Err e) → P
@@ -157,74 +179,120 @@ module _ (c : Compared) (bis : Bisimulation c) where
         ∙ held_yes
 
     -- what the book becomes, and how it says that the call goes, once the value fits or not
-    writes_by : (b : Bool) → value_fits c asked.label v ≡ b → writes c p (answered a.side a.step a.reply) (Settle v) ≡ cond b (book (landings_by c a.side asked given v) level) (book p (answered a.side a.step a.reply))
+    writes_by : (b : Bool) → value_fits c asked.label v ≡ b → next_book c p (answered a.side a.step a.reply) (Settle v) ≡ cond b (book (landings_by c a.side asked given v) level) (book p (answered a.side a.step a.reply))
     writes_by b t =
         let old = book p (answered a.side a.step a.reply) in
-        ap (λ o. settled c old a.side o (slice_get (steps_on (opposed a.side) c p) a.reply) v) fixed.0.asked_at
-        ∙ ap (λ o. settled c old a.side (Some asked) o v) fixed.0.given_at
+        ap (λ o. book_after_settle c old a.side o (slice_get (steps_on (opposed a.side) c p) a.reply) v) fixed.0.asked_at
+        ∙ ap (λ o. book_after_settle c old a.side (Some asked) o v) fixed.0.given_at
         ∙ ap (λ q. cond q (book (landings_by c a.side asked given v) level) old) t
 
     outcome_by : (b : Bool) → value_fits c asked.label v ≡ b → outcome c p (answered a.side a.step a.reply) (Settle v) ≡ cond b Taken (Refused Value)
     outcome_by b t = ap (settle_outcome c v) fixed.0.asked_at ∙ ap (λ q. cond q Taken (Refused Value)) t
 
-    settle_ok : (next : LevelPlay) → Settles c a v (Ok next) → Next c (book p (answered a.side a.step a.reply)) (Settle v) (made_taken (Level next))
+    settle_ok : (next : LevelPlay) → Settles c a v (Ok next) → Next c (Answered a) (book p (answered a.side a.step a.reply)) (Settle v) (after_taken (Level next))
     settle_ok next h =
         let t = taken_yes _ _ (h.refuses ∙ settle_left) in
         let first = h.first p at asked given fixed.0.asked_at fixed.0.given_at in
         let w = sym (writes_by true t) in
         record {
-          agrees = subst (λ (b : Book). Agrees c.relation (Level next) b) w (refl, first.0);
+          agrees = subst (λ (b : Book). Agrees c.relation (Level next) b) w (record { in_phase = refl; record_equal = first.0 });
           went = sym (outcome_by true t);
-          first = λ u _ _. subst (λ (b : Book). AtFirst c.relation (Level next) b) w (refl, first);
+          first = λ _. subst (λ (b : Book). FirstOf (Stands c.relation b.present) (Some next.pair)) w first;
+          kept = λ none. absurd (none (v, refl, refl));
         }
 
-    settle_err : (e : RefusedCall AnsweredPlay) → Settles c a v (Err e) → Next c (book p (answered a.side a.step a.reply)) (Settle v) (made_refused (Answered e.play) e.fault)
+    settle_err : (e : RefusedCall AnsweredPlay) → Settles c a v (Err e) → Next c (Answered a) (book p (answered a.side a.step a.reply)) (Settle v) (after_refused (Answered e.play) e.fault)
     settle_err e h =
         let no = refused_no _ _ e.fault (h.refuses ∙ settle_left) in
-        let w = sym (writes_by false no.0) in
+        let old = book p (answered a.side a.step a.reply) in
+        let w = writes_by false no.0 in
+        let same : ◌≡◌ {A = Play} (Answered a) (Answered e.play) = ap Answered (sym h.hands_back) in
         record {
-          agrees = subst (λ (b : Book). Agrees c.relation (Answered e.play) b) w (subst (λ (o : AnsweredPlay). Agrees c.relation (Answered o) (book p (answered a.side a.step a.reply))) (sym h.hands_back) (refl, at));
+          agrees = subst (λ (b : Book). Agrees c.relation (Answered e.play) b) (sym w) (subst (λ (o : Play). Agrees c.relation o old) same (record { in_phase = refl; record_equal = at }));
           went = ap Refused (fault_is e.fault Value no.1) ∙ sym (outcome_by false no.0);
-          first = λ u _ q. let z : ◌≡◌ {A = ℕ} 0 1 = cc in absurd (omega arith);
+          first = λ s. absurd (no_refused_settle e.fault s.2);
+          kept = λ _. (ap (λ o. o.pair) h.hands_back, ap (λ b. b.present) w);
         }
 
   -- the same, of each book that agrees; `self`, `told` and `made` are the play, the call and the answer as the code has them
-  module _ (self : Play) (told : Call) (made : Made) where
-    at_level : (l : LevelPlay) (call : Call) (m : Made) → self ≡ Level l → told ≡ call → made ≡ m → ((p : Pair) → Stands c.relation p l.pair → Next c (book p level) call m) → KeepsBook c self told made
+  module _ (self : Play) (told : Call) (made : AfterCall) where
+    moved : (play : Play) (call : Call) (m : AfterCall) (b : Book) → self ≡ play → told ≡ call → made ≡ m → Next c play b call m → Next c self b told made
+    moved play call m b s t e n =
+        subst (λ (o : Play). Next c o b told made) (sym s) (subst (λ (o : Call). Next c play b o made) (sym t) (subst (λ (o : AfterCall). Next c play b call o) (sym e) n))
+
+    at_level : (l : LevelPlay) (call : Call) (m : AfterCall) → self ≡ Level l → told ≡ call → made ≡ m → ((p : Pair) → Stands c.relation p l.pair → Next c (Level l) (book p level) call m) → KeepsBook c self told made
     at_level l call m s t e next b agrees sound =
         let g = subst (λ (o : Play). Agrees c.relation o b) s agrees in
-        let n = subst (λ (o : Stand). Next c (book b.present o) call m) (sym g.0) (next b.present g.1) in
-        subst (λ (o : Call). Next c b o made) (sym t) (subst (λ (o : Made). Next c b call o) (sym e) n)
+        let n = subst (λ (o : Phase). Next c (Level l) (book b.present o) call m) (sym g.in_phase) (next b.present g.record_equal) in
+        moved (Level l) call m b s t e n
 
-    pub keeps_challenge_ok : (l : LevelPlay) (side : Side) (i : ℕ) (next : ChallengedPlay) → self ≡ Level l → told ≡ Challenge side i → made ≡ made_taken (Challenged next) → Challenges c l side i (Ok next) → KeepsBook c self told made
-    keeps_challenge_ok l side i next s t e h = at_level l (Challenge side i) (made_taken (Challenged next)) s t e (λ p at. challenge_ok l side i p at next h)
+    pub keeps_challenge_ok : (l : LevelPlay) (side : Side) (i : ℕ) (next : ChallengedPlay) → self ≡ Level l → told ≡ Challenge side i → made ≡ after_taken (Challenged next) → Challenges c l side i (Ok next) → KeepsBook c self told made
+    keeps_challenge_ok l side i next s t e h = at_level l (Challenge side i) (after_taken (Challenged next)) s t e (λ p at. challenge_ok l side i p at next h)
 
-    pub keeps_challenge_err : (l : LevelPlay) (side : Side) (i : ℕ) (r : RefusedCall LevelPlay) → self ≡ Level l → told ≡ Challenge side i → made ≡ made_refused (Level r.play) r.fault → Challenges c l side i (Err r) → KeepsBook c self told made
-    keeps_challenge_err l side i r s t e h = at_level l (Challenge side i) (made_refused (Level r.play) r.fault) s t e (λ p at. challenge_err l side i p at r h)
+    pub keeps_challenge_err : (l : LevelPlay) (side : Side) (i : ℕ) (r : RefusedCall LevelPlay) → self ≡ Level l → told ≡ Challenge side i → made ≡ after_refused (Level r.play) r.fault → Challenges c l side i (Err r) → KeepsBook c self told made
+    keeps_challenge_err l side i r s t e h = at_level l (Challenge side i) (after_refused (Level r.play) r.fault) s t e (λ p at. challenge_err l side i p at r h)
 
-    at_challenged : (l : ChallengedPlay) (m : Made) → self ≡ Challenged l → told ≡ Reply → made ≡ m → ((p : Pair) → Stands c.relation p l.pair → l.step < length (steps_on l.side c p) → Next c (book p (challenged l.side l.step)) Reply m) → KeepsBook c self told made
+    at_challenged : (l : ChallengedPlay) (m : AfterCall) → self ≡ Challenged l → told ≡ Reply → made ≡ m
+        → ((p : Pair) → Stands c.relation p l.pair → l.step < length (steps_on l.side c p) → Next c (Challenged l) (book p (challenged l.side l.step)) Reply m) → KeepsBook c self told made
     at_challenged l m s t e next b agrees sound =
         let g = subst (λ (o : Play). Agrees c.relation o b) s agrees in
-        let has = subst (λ (o : Stand). Keeping c b.present o) g.0 sound.keeping in
-        let n = subst (λ (o : Stand). Next c (book b.present o) Reply m) (sym g.0) (next b.present g.1 has) in
-        subst (λ (o : Call). Next c b o made) (sym t) (subst (λ (o : Made). Next c b Reply o) (sym e) n)
+        let has = subst (λ (o : Phase). Keeping c b.present o) g.in_phase sound.keeping in
+        let n = subst (λ (o : Phase). Next c (Challenged l) (book b.present o) Reply m) (sym g.in_phase) (next b.present g.record_equal has) in
+        moved (Challenged l) Reply m b s t e n
 
-    pub keeps_reply_ok : (l : ChallengedPlay) (next : AnsweredPlay) → self ≡ Challenged l → told ≡ Reply → made ≡ made_taken (Answered next) → Replies c l (Ok next) → KeepsBook c self told made
-    keeps_reply_ok l next s t e h = at_challenged l (made_taken (Answered next)) s t e (λ p at has. reply_ok l p at has next h)
+    pub keeps_reply_ok : (l : ChallengedPlay) (next : AnsweredPlay) → self ≡ Challenged l → told ≡ Reply → made ≡ after_taken (Answered next) → Replies c l (Ok next) → KeepsBook c self told made
+    keeps_reply_ok l next s t e h = at_challenged l (after_taken (Answered next)) s t e (λ p at has. reply_ok l p at has next h)
 
-    pub keeps_reply_err : (l : ChallengedPlay) (r : RefusedCall ChallengedPlay) → self ≡ Challenged l → told ≡ Reply → made ≡ made_refused (Challenged r.play) r.fault → Replies c l (Err r) → KeepsBook c self told made
-    keeps_reply_err l r s t e h = at_challenged l (made_refused (Challenged r.play) r.fault) s t e (λ p at has. reply_err l p at has r h)
+    pub keeps_reply_err : (l : ChallengedPlay) (r : RefusedCall ChallengedPlay) → self ≡ Challenged l → told ≡ Reply → made ≡ after_refused (Challenged r.play) r.fault → Replies c l (Err r) → KeepsBook c self told made
+    keeps_reply_err l r s t e h = at_challenged l (after_refused (Challenged r.play) r.fault) s t e (λ p at has. reply_err l p at has r h)
 
     module _ (keeps : Keeps c.left) (a : AnsweredPlay) (v u : ℤ) (same : u ≡ v) (s : self ≡ Answered a) (t : told ≡ Settle v) where
-      at_answered : (m : Made) → made ≡ m → ((p : Pair) → Stands c.relation p a.pair → FirstReply c a.side p a.step a.reply → Next c (book p (answered a.side a.step a.reply)) (Settle u) m) → KeepsBook c self told made
+      at_answered : (m : AfterCall) → made ≡ m → ((p : Pair) → Stands c.relation p a.pair → FirstReply c a.side p a.step a.reply → Next c (Answered a) (book p (answered a.side a.step a.reply)) (Settle u) m)
+          → KeepsBook c self told made
       at_answered m e next b agrees sound =
           let g = subst (λ (o : Play). Agrees c.relation o b) s agrees in
-          let fixed = subst (λ (o : Stand). Keeping c b.present o) g.0 sound.keeping in
-          let n = subst (λ (o : Stand). Next c (book b.present o) (Settle u) m) (sym g.0) (next b.present g.1 fixed) in
-          subst (λ (o : Call). Next c b o made) (ap Settle same ∙ sym t) (subst (λ (o : Made). Next c b (Settle u) o) (sym e) n)
+          let fixed = subst (λ (o : Phase). Keeping c b.present o) g.in_phase sound.keeping in
+          let n = subst (λ (o : Phase). Next c (Answered a) (book b.present o) (Settle u) m) (sym g.in_phase) (next b.present g.record_equal fixed) in
+          moved (Answered a) (Settle u) m b s (t ∙ sym (ap Settle same)) e n
 
-      pub keeps_settle_ok : (next : LevelPlay) → made ≡ made_taken (Level next) → Settles c a u (Ok next) → KeepsBook c self told made
-      keeps_settle_ok next e h = at_answered (made_taken (Level next)) e (λ p at fixed. settle_ok (low_within c keeps) a p at u fixed next h)
+      pub keeps_settle_ok : (next : LevelPlay) → made ≡ after_taken (Level next) → Settles c a u (Ok next) → KeepsBook c self told made
+      keeps_settle_ok next e h = at_answered (after_taken (Level next)) e (λ p at fixed. settle_ok (low_within c keeps) a p at u fixed next h)
 
-      pub keeps_settle_err : (r : RefusedCall AnsweredPlay) → made ≡ made_refused (Answered r.play) r.fault → Settles c a u (Err r) → KeepsBook c self told made
-      keeps_settle_err r e h = at_answered (made_refused (Answered r.play) r.fault) e (λ p at fixed. settle_err (low_within c keeps) a p at u fixed r h)
+      pub keeps_settle_err : (r : RefusedCall AnsweredPlay) → made ≡ after_refused (Answered r.play) r.fault → Settles c a u (Err r) → KeepsBook c self told made
+      keeps_settle_err r e h = at_answered (after_refused (Answered r.play) r.fault) e (λ p at fixed. settle_err (low_within c keeps) a p at u fixed r h)
+
+-- a call for which a play does not wait
+abbrev pub OutOfPhase : Play → Call → Type 0
+OutOfPhase (Level l) (Challenge side i) = ⊥
+OutOfPhase (Level l) Reply = Unit {0}
+OutOfPhase (Level l) (Settle v) = Unit {0}
+OutOfPhase (Challenged h) (Challenge side i) = Unit {0}
+OutOfPhase (Challenged h) Reply = ⊥
+OutOfPhase (Challenged h) (Settle v) = Unit {0}
+OutOfPhase (Answered a) (Challenge side i) = Unit {0}
+OutOfPhase (Answered a) Reply = Unit {0}
+OutOfPhase (Answered a) (Settle v) = ⊥
+
+module _ (c : Compared) where
+  -- such a call changes neither the book nor the play
+  same_after : (p : Pair) (phase : Phase) (play : Play) (call : Call) → InPhase play phase → OutOfPhase play call
+      → (next_book c p phase call ≡ book p phase) × (outcome c p phase call ≡ OutOfTurn)
+  same_after p phase (Level l) (Challenge side i) e o = absurd o
+  same_after p phase (Level l) Reply e o = rw e (refl, refl)
+  same_after p phase (Level l) (Settle v) e o = rw e (refl, refl)
+  same_after p phase (Challenged h) (Challenge side i) e o = rw e (refl, refl)
+  same_after p phase (Challenged h) Reply e o = absurd o
+  same_after p phase (Challenged h) (Settle v) e o = rw e (refl, refl)
+  same_after p phase (Answered a) (Challenge side i) e o = rw e (refl, refl)
+  same_after p phase (Answered a) Reply e o = rw e (refl, refl)
+  same_after p phase (Answered a) (Settle v) e o = absurd o
+
+  pub keeps_out_of_turn : (play : Play) (call : Call) → OutOfPhase play call → KeepsBook c play call (after_out_of_turn play)
+  keeps_out_of_turn play call o b agrees sound =
+      let same = same_after b.present b.phase play call agrees.in_phase o in
+      record {
+        agrees = subst (λ (d : Book). Agrees c.relation play d) (sym same.0) agrees;
+        went = sym same.1;
+        first = λ s. no_settle_out_of_turn s.2;
+        kept = λ _. (refl, ap (λ d. d.present) same.0);
+      }

@@ -1,3 +1,4 @@
 pub mod Runs
 pub mod Book
 pub mod Law
+pub mod Making

@@ -1,5 +1,5 @@
 ghost use Rattle.std.specs.Prelude.{◌≡◌, Some};
-ghost use Rattle.rehearsal.specs.Law.{rehearsal_refusal};
+ghost use Rattle.rehearsal.specs.Law.{rehearsal_refusal, rehearsal_text};
 ghost use Rattle.rehearsal.specs.declared.fault.RehearsalFault.TheVariants.{NotAccepted, NotBegun};
 
 use questions::Refusal;
@@ -41,6 +41,8 @@ impl From<play::fault::Fault> for RehearsalFault {
 }
 
 impl fmt::Display for RehearsalFault {
+    ghost output = { λ fault. Some (rehearsal_text fault) };
+
     fn fmt<W: fmt::Write>(&self, f: &mut fmt::Formatter<W>) -> fmt::Result {
         match *self {
             RehearsalFault::NotAccepted(fault) => write!(f, "{fault}"),

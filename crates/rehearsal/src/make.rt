@@ -1,7 +1,7 @@
 ghost use Rattle.judge.specs.Comparing.{meant};
 ghost use Rattle.judge.specs.Likeness.{Bisimulation};
 ghost use Rattle.std.specs.Prelude.{◌≡◌};
-ghost use Rattle.rehearsal.specs.Law.{made_taken, made_refused, KeepsBook};
+ghost use Rattle.rehearsal.specs.Making.{after_taken, after_refused, KeepsBook};
 
 use crate::attempt::{Call, Outcome};
 use crate::playing::Play;
@@ -11,24 +11,24 @@ use systems::System;
 
 /// A play after a call, and how the call went.
 #[derive(Drop)]
-pub(crate) struct Made {
+pub(crate) struct AfterCall {
     pub(crate) play: Play,
     pub(crate) outcome: Outcome,
 }
 
-fn taken(play: Play) -> Made
-    ensures { result ≡ made_taken play }
+fn taken(play: Play) -> AfterCall
+    ensures { result ≡ after_taken play }
 {
-    Made {
+    AfterCall {
         play,
         outcome: Outcome::Taken,
     }
 }
 
-fn refused(play: Play, fault: Fault) -> Made
-    ensures { result ≡ made_refused play fault }
+fn refused(play: Play, fault: Fault) -> AfterCall
+    ensures { result ≡ after_refused play fault }
 {
-    Made {
+    AfterCall {
         play,
         outcome: Outcome::Refused(fault),
     }
@@ -40,7 +40,7 @@ impl Play {
         self,
         comparison: &Comparison<'_, L, R>,
         call: Call,
-    ) -> Made
+    ) -> AfterCall
         ensures { Bisimulation (meant L.System.means R.System.means comparison.now) → KeepsBook (meant L.System.means R.System.means comparison.now) self call result }
     {
         match (self, call) {
@@ -60,7 +60,7 @@ impl Play {
                     Err(Refused { play, fault }) => refused(Play::Answered(play), fault),
                 }
             }
-            (play, _) => Made {
+            (play, _) => AfterCall {
                 play,
                 outcome: Outcome::OutOfTurn,
             },

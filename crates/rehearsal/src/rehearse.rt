@@ -11,8 +11,8 @@ use std::alloc::Global;
 use systems::System;
 
 /// Judges the relation, begins a play at the pair with that number, and makes the calls one after another, writing beside
-/// each how it went. A call for which the play does not wait is not made. Where the relation is not accepted or the pair is
-/// not there, no call is made.
+/// each how it went, over what stood there. A call for which the play does not wait is not made. Where the relation is not
+/// accepted or the pair is not there, no call is made and the attempts stay as they are.
 pub fn rehearse<L: System, R: System>(
     heap: Global,
     comparison: &Comparison<'_, L, R>,

@@ -39,16 +39,12 @@ fn show_round<L: System, R: System>(
     let answered = challenged
         .reply(comparison)
         .map_err(|refused| refused.fault)?;
-    let reply = answered.reply();
+    let reply = answered.reply_step();
     print!(rt; ", the other replies with step {reply}")?;
-    match answered.settle(comparison, value) {
-        Ok(level) => {
-            let pair = level.pair();
-            println!(rt; ", and the value {value} leads to pair {pair}")?;
-            Ok(level)
-        }
-        Err(refused) => Err(refused.fault.into()),
-    }
+    let level = answered.settle(comparison, value)?;
+    let pair = level.pair();
+    println!(rt; ", {value} is told, and they land at pair {pair}")?;
+    Ok(level)
 }
 
 fn alike(number: u8) -> Pair {
@@ -70,7 +66,9 @@ pub fn show_play(rt: &HostRuntime) -> anyhow::Result<()> {
     println!(rt; "a receive whose landing depends on the value, from pair 0")?;
     let play = Level::begin(&pass, 0)?;
     show_round(rt, &comparison, play, Side::Left, 2, 1)?;
-    println!(rt; "the same with another value, and then a broadcast, for which no value is asked")?;
+    println!(rt;
+        "the same with another value, and then a broadcast, which lands alike whatever is told"
+    )?;
     let play = Level::begin(&pass, 0)?;
     let play = show_round(rt, &comparison, play, Side::Left, 2, 0)?;
     let play = show_round(rt, &comparison, play, Side::Right, 0, 100)?;

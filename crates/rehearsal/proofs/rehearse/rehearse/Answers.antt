@@ -25,7 +25,7 @@ returns-in_err-begin g c =
 pub loop-attempt-init : goal.loop-attempt-init
 loop-attempt-init g c p at =
     let x = meant g.L.System.means g.R.System.means c.args.comparison.now in
-    going_start x p c.args.attempts.now _ (c.args.pair, at) (refl, subst (λ (k : ℕ). Stands x.relation p k) (sym c.in_ok-begin.ensures.stands) at)
+    going_start x c.args.pair p c.args.attempts.now _ (c.args.pair, at) c.in_ok-begin.ensures.stands (record { in_phase = refl; record_equal = subst (λ (k : ℕ). Stands x.relation p k) (sym c.in_ok-begin.ensures.stands) at })
 
 pub loop-attempt-preserved : goal.loop-attempt-preserved
 loop-attempt-preserved g c p at =
@@ -35,7 +35,7 @@ loop-attempt-preserved g c p at =
     let l = c.loop-attempt in
     let long = l.auto.attempts in
     let test = c.loop-attempt-test.true in
-    going_push x bis low _ c.args.attempts.now l.attempts l.attempt-index l.play _ c.make-made.result (slice_get-get_or l.attempts l.attempt-index _ (omega (arith, long, test))) (c.make-made.ensures bis) (l.invariant p at)
+    going_push x bis low c.args.pair _ c.args.attempts.now l.attempts l.attempt-index l.play _ c.make-made.result (slice_get-get_or l.attempts l.attempt-index _ (omega (arith, long, test))) (c.make-made.ensures bis) (l.invariant p at)
 
 pub returns : goal.returns
 returns g c =
@@ -46,4 +46,4 @@ returns g c =
     let long = l.auto.attempts in
     let test = c.loop-attempt-test.false in
     begun x c.args.pair c.args.attempts.now l.attempts _ c.in_ok-pass.pass c.in_ok-pass.ensures c.in_ok-begin.field-0 l.play refl c.in_ok-begin.ensures
-    (λ p at. going_end x bis low p (c.args.pair, at) c.args.attempts.now l.attempts l.attempt-index l.play (omega (arith, long, test)) (l.invariant p at))
+    (λ p at. going_end x bis low c.args.pair p (c.args.pair, at) c.args.attempts.now l.attempts l.attempt-index l.play (omega (arith, long, test)) (l.invariant p at))

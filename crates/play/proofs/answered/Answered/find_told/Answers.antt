@@ -1,4 +1,4 @@
-use Rattle.std.proofs.Common.{◌≡◌, Some, None, sym, ◌∙◌, rules, w8, FitsSigned}
+use Rattle.std.proofs.Common.{◌≡◌, false, is_none, Some, None, sym, ◌∙◌, rules, w8, FitsSigned}
 use Rattle.std.proofs.lemmas.Int.{to_z-of_z}
 use Rattle.judge.specs.Comparing.{meant}
 use Rattle.play.proofs.Settling.{told_refused, told_passed, told_value}
@@ -8,27 +8,27 @@ pub returns-in_err-value-clause-refuses : goal.returns-in_err-value-clause-refus
 returns-in_err-value-clause-refuses g c =
     let x = meant g.L.System.means g.R.System.means c.args.comparison.now in
     let held = c.in_ok-held.held in
-    let known : c.label.result ≡ Some c.in_ok-ok_or.field-0 = search rules in
+    let there : is_none c.label.result ≡ false = search rules in
     let out : c.value_for.result ≡ None = search rules in
     let no = told_refused x c.args.self.now c.args.value c.in_ok-held.ensures.refuses held.pair.now held.label _ c.in_ok-held.ensures.stands c.in_ok-held.ensures.labeled _ c.opposite.ensures
-    (sym (rw known at c.label.ensures)) c.range.result c.range.ensures.lo c.range.ensures.hi _ (to_z-of_z w8 c.args.value c.ranges.value) (rw out at c.value_for.ensures) in
+    c.label.ensures there c.range.result c.range.ensures.lo c.range.ensures.hi _ (to_z-of_z w8 c.args.value c.ranges.value) (rw out at c.value_for.ensures) in
     search rules
 
 pub returns-clause-refuses : goal.returns-clause-refuses
 returns-clause-refuses g c =
     let x = meant g.L.System.means g.R.System.means c.args.comparison.now in
     let held = c.in_ok-held.held in
-    let known : c.label.result ≡ Some c.in_ok-ok_or.field-0 = search rules in
+    let there : is_none c.label.result ≡ false = search rules in
     let given : c.value_for.result ≡ Some c.in_ok-value.value = search rules in
     told_passed x c.args.self.now c.args.value c.in_ok-held.ensures.refuses held.pair.now held.label _ c.in_ok-held.ensures.stands c.in_ok-held.ensures.labeled _ c.opposite.ensures
-    (sym (rw known at c.label.ensures)) c.range.result c.range.ensures.lo c.range.ensures.hi _ (to_z-of_z w8 c.args.value c.ranges.value) _ (rw given at c.value_for.ensures)
+    c.label.ensures there c.range.result c.range.ensures.lo c.range.ensures.hi _ (to_z-of_z w8 c.args.value c.ranges.value) _ (rw given at c.value_for.ensures)
 
 pub returns-clause-value : goal.returns-clause-value
 returns-clause-value g c =
     let x = meant g.L.System.means g.R.System.means c.args.comparison.now in
     let held = c.in_ok-held.held in
-    let known : c.label.result ≡ Some c.in_ok-ok_or.field-0 = search rules in
+    let there : is_none c.label.result ≡ false = search rules in
     let given : c.value_for.result ≡ Some c.in_ok-value.value = search rules in
     let fits : FitsSigned w8 c.in_ok-value.value = search rules in
     λ q q-at y z y-at z-at. to_z-of_z w8 c.in_ok-value.value fits ∙ told_value x c.args.self.now c.args.value c.in_ok-held.ensures.refuses held.pair.now held.label _ c.in_ok-held.ensures.stands c.in_ok-held.ensures.labeled _ c.opposite.ensures
-    (sym (rw known at c.label.ensures)) c.range.result c.range.ensures.lo c.range.ensures.hi _ (to_z-of_z w8 c.args.value c.ranges.value) _ (rw given at c.value_for.ensures) q q-at y z y-at z-at
+    c.label.ensures there c.range.result c.range.ensures.lo c.range.ensures.hi _ (to_z-of_z w8 c.args.value c.ranges.value) _ (rw given at c.value_for.ensures) q q-at y z y-at z-at
