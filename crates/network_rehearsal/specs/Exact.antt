@@ -4,7 +4,7 @@ use Rattle.judge.specs.Comparing.{Compared, comparing}
 use Rattle.judge.specs.declared.comparison.Comparison.{Comparison}
 use Rattle.model.specs.declared.group_set.GroupSet.{GroupSet}
 use Rattle.model.specs.declared.state.State.{State}
-use Rattle.ways.specs.Nets.{Net, net_of}
+use Rattle.ways.specs.Nets.{net_of}
 use Rattle.network.specs.Meanings.{lawful, network_meaning}
 use Rattle.network.specs.declared.network.Network.{Network}
 use Rattle.calculus.specs.Exactness.{Exact}

@@ -1,10 +1,9 @@
 -- What a book holds of steps is so. Assumes nothing.
-use Rattle.std.proofs.Common.{◌≡◌, ℕ, zero, suc, ◌+◌, ◌<◌, Bool, true, false, cond, List, [], ◌∷◌, length, ℤ, nat_lt, Some, None, Option, sym, refl, ap, ◌∙◌, subst, arith}
+use Rattle.std.proofs.Common.{◌≡◌, ℕ, zero, suc, ◌+◌, ◌<◌, true, false, cond, List, [], ◌∷◌, length, ℤ, nat_lt, Some, None, Option, sym, refl, ap, ◌∙◌, subst, arith}
 use Rattle.std.specs.List.{slice_get}
-use Rattle.std.proofs.lemmas.Bool.{ltb-true, false_from_ne_true, true_from_ne_false, false≢true}
-use Rattle.std.proofs.lemmas.Int.{ints}
-use Rattle.lists.specs.Words.{through, Stands, FirstOf}
-use Rattle.lists.proofs.Places.{some_same, some_none, nth_within, nth_here}
+use Rattle.std.proofs.lemmas.Bool.{ltb-true, false_from_ne_true, false≢true}
+use Rattle.lists.specs.Words.{through, Stands}
+use Rattle.lists.proofs.Places.{some_same, some_none, nth_here}
 use Rattle.questions.specs.declared.Side.{Side}
 use Rattle.model.specs.declared.label.Label.{Label}
 use Rattle.model.specs.declared.state.Pair.{Pair}
@@ -14,7 +13,6 @@ use Rattle.judge.specs.Likeness.{Holds, Lands, Reply, Bisimulation}
 use Rattle.judge.specs.Replies.{replies}
 use Rattle.judge.proofs.Replying.{own_landing, other_landing}
 use Rattle.judge.proofs.Tested.{decides_replies}
-use Rattle.judge.proofs.Values.{in_range_lem}
 use Rattle.play.specs.Calls.{value_by, value_fits, landings_by, FirstReply}
 use Rattle.rehearsal.specs.declared.attempt.Attempt.{Attempt}
 use Rattle.rehearsal.specs.declared.attempt.Call.{Call}

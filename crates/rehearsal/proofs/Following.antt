@@ -1,18 +1,17 @@
 -- The runs between two systems with a bisimulation match. Assumes nothing.
-use Rattle.std.proofs.Common.{◌≡◌, ℕ, List, [], ◌∷◌, ℤ, sym, refl, ap, ◌∙◌, subst}
+use Rattle.std.proofs.Common.{◌≡◌, List, ◌∷◌, ℤ, sym, refl, ap, ◌∙◌, subst}
 use Rattle.std.specs.List.{slice_get}
 use Rattle.lists.specs.Words.{Stands}
 use Rattle.lists.proofs.Places.{some_same, nth_within}
 use Rattle.questions.specs.declared.Side.{Side}
 use Rattle.questions.specs.declared.Side.TheVariants.{Left, Right}
 use Rattle.model.specs.declared.label.Label.{Label}
-use Rattle.model.specs.declared.state.Pair.{Pair}
 use Rattle.model.specs.declared.state.State.{State}
 use Rattle.systems.specs.Meaning.{Step}
 use Rattle.judge.specs.Comparing.{Compared, opposed, pair_from, state_on, system_on, steps_on}
 use Rattle.judge.specs.Likeness.{Holds, Matched, Bisimulation}
 use Rattle.judge.proofs.Replying.{range_on}
-use Rattle.rehearsal.specs.Runs.{Run, Event, events, states, Paired, RunMatched, RunsMatched}
+use Rattle.rehearsal.specs.Runs.{Run, Event, RunMatched, RunsMatched}
 use Rattle.rehearsal.specs.Runs.Run.{stops, goes}
 
 own_state : (side : Side) (s t : State) → state_on side (pair_from side s t) ≡ s

@@ -1,5 +1,5 @@
 -- Each call keeps a play in agreement with its book. Assumes nothing.
-use Rattle.std.proofs.Common.{◌≡◌, ℕ, ◌<◌, Bool, true, false, cond, List, [], ◌∷◌, length, ℤ, nat_eq, nat_lt, Some, None, Ok, Err, Option, Result, sym, refl, ap, ◌∙◌, subst, arith}
+use Rattle.std.proofs.Common.{◌≡◌, ℕ, ◌<◌, Bool, true, false, cond, List, [], ◌∷◌, length, ℤ, nat_eq, nat_lt, Some, None, Ok, Err, Option, sym, refl, ap, ◌∙◌, subst, arith}
 use Rattle.std.specs.List.{slice_get}
 use Rattle.std.proofs.lemmas.Bool.{le-leb}
 use Rattle.std.proofs.lemmas.Int.{ints}
@@ -12,11 +12,11 @@ use Rattle.questions.proofs.Asked.{ask_none}
 use Rattle.model.specs.declared.state.Pair.{Pair}
 use Rattle.systems.specs.Meaning.{Step, Keeps, in_range_of}
 use Rattle.judge.specs.Comparing.{Compared, opposed, steps_on}
-use Rattle.judge.specs.Likeness.{Holds, Bisimulation}
+use Rattle.judge.specs.Likeness.{Bisimulation}
 use Rattle.judge.specs.Replies.{holds, has_reply}
 use Rattle.judge.proofs.Tested.{decides_range, decides_holds, decides_answered}
 use Rattle.judge.proofs.Values.{in_range_lem}
-use Rattle.play.specs.Calls.{play_refusal, refused_refusal, if_there, present_asked, step_asked, challenge_asked, reply_asked, settle_asked, value_by, value_fits, landings_by, FirstReply, Challenges, Replies, Settles}
+use Rattle.play.specs.Calls.{play_refusal, if_there, present_asked, step_asked, challenge_asked, reply_asked, settle_asked, value_by, value_fits, landings_by, FirstReply, Challenges, Replies, Settles}
 use Rattle.play.specs.declared.answered.Answered.{Answered as AnsweredPlay}
 use Rattle.play.specs.declared.challenged.Challenged.{Challenged as ChallengedPlay}
 use Rattle.play.specs.declared.fault.Fault.{Fault}
@@ -26,15 +26,13 @@ use Rattle.play.specs.declared.level.Level.{Level as LevelPlay}
 use Rattle.play.proofs.Facing.{step_there, record_there}
 use Rattle.rehearsal.specs.declared.attempt.Call.{Call}
 use Rattle.rehearsal.specs.declared.attempt.Call.TheVariants.{Challenge, Reply, Settle}
-use Rattle.rehearsal.specs.declared.attempt.Outcome.{Outcome}
 use Rattle.rehearsal.specs.declared.attempt.Outcome.TheVariants.{Taken, Refused, OutOfTurn}
 use Rattle.rehearsal.specs.declared.make.AfterCall.{AfterCall}
 use Rattle.rehearsal.specs.declared.playing.Play.{Play}
 use Rattle.rehearsal.specs.declared.playing.Play.TheVariants.{Level, Challenged, Answered}
 use Rattle.rehearsal.specs.Book.{Book, book, Phase, first_reply, with_reply, book_after_settle, settle_outcome, next_book, outcome, InPhase, Agrees}
 use Rattle.rehearsal.specs.Book.Phase.{level, challenged, answered}
-use Rattle.rehearsal.specs.Law.{IsTakenSettle}
-use Rattle.rehearsal.specs.Making.{Keeping, Sound, Next, KeepsBook, after_taken, after_refused, after_out_of_turn}
+use Rattle.rehearsal.specs.Making.{Keeping, Next, KeepsBook, after_taken, after_refused, after_out_of_turn}
 use Rattle.rehearsal.proofs.Books.{first_is, value_within}
 
 pub low_within : (c : Compared) → Keeps c.left → in_range_of c.left c.left.lo ≡ true

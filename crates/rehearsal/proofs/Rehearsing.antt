@@ -1,5 +1,5 @@
 -- The loop over the calls, and the law from what it leaves. Assumes nothing.
-use Rattle.std.proofs.Common.{◌≡◌, ℕ, zero, suc, ◌+◌, ◌<◌, ◌≤◌, Bool, true, false, cond, ◌⊎◌, inl, inr, List, [], ◌∷◌, ◌++◌, length, set, ℤ, nat_lt, Some, Option, sym, refl, ap, ◌∙◌, subst, ⊎_elim, arith}
+use Rattle.std.proofs.Common.{◌≡◌, ℕ, zero, suc, ◌+◌, ◌≤◌, Bool, true, false, cond, ◌⊎◌, inl, inr, List, [], ◌∷◌, ◌++◌, length, set, ℤ, nat_lt, Some, sym, refl, ap, ◌∙◌, subst, ⊎_elim, arith}
 use Rattle.std.specs.List.{slice_get, AllByRecursion}
 use Rattle.std.proofs.lemmas.List.{append_assoc, append-nil, length-append}
 use Rattle.std.proofs.lemmas.Bool.{ltb-true, ltb-false, false≢true}
@@ -23,7 +23,7 @@ use Rattle.rehearsal.specs.declared.playing.Play.{Play}
 use Rattle.rehearsal.specs.Book.{Book, book, Phase, settle_outcome, next_book, book_after_call, book_after, outcome, with_outcome, attempts_with_outcomes, number_of, Agrees}
 use Rattle.rehearsal.specs.Book.Phase.{level, challenged, answered}
 use Rattle.rehearsal.specs.Law.{RefusedWhen, Place, book_at, IsTakenSettle, NoneSettled, OutOfRange, FirstForAllValues, Plays}
-use Rattle.rehearsal.specs.Making.{Keeping, Sound, Next, KeepsBook}
+use Rattle.rehearsal.specs.Making.{Keeping, Sound, KeepsBook}
 use Rattle.rehearsal.proofs.Books.{sound_after_call, sound_after, fixed_first, reply_written}
 
 -- the play and the attempts after n calls: what is left gives the same book and the same outcomes as all did

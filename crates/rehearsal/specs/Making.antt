@@ -1,5 +1,5 @@
 -- One call of a play that agrees with its book.
-use Rattle.std.specs.Prelude.{◌≡◌, ℕ, ◌<◌, length, Some}
+use Rattle.std.specs.Prelude.{◌≡◌, ◌<◌, length, Some}
 use Rattle.lists.specs.Words.{Stands, FirstOf}
 use Rattle.model.specs.declared.state.Pair.{Pair}
 use Rattle.judge.specs.Comparing.{Compared, steps_on}

@@ -1,4 +1,4 @@
-use Rattle.std.proofs.Common.{◌≡◌, false, is_none, Some, None, sym, ◌∙◌, rules, w8, FitsSigned}
+use Rattle.std.proofs.Common.{◌≡◌, false, is_none, Some, None, ◌∙◌, rules, w8, FitsSigned}
 use Rattle.std.proofs.lemmas.Int.{to_z-of_z}
 use Rattle.judge.specs.Comparing.{meant}
 use Rattle.play.proofs.Settling.{told_refused, told_passed, told_value}

@@ -1,4 +1,4 @@
-use Rattle.std.proofs.Common.{sym, rules, w8, FitsSigned}
+use Rattle.std.proofs.Common.{rules, w8, FitsSigned}
 use Rattle.std.proofs.lemmas.Int.{to_z-of_z}
 use Rattle.judge.specs.Comparing.{meant}
 use Rattle.rehearsal.proofs.Making.{keeps_challenge_err, keeps_reply_ok, keeps_reply_err, keeps_settle_ok, keeps_settle_err}
