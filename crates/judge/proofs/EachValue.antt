@@ -42,11 +42,11 @@ record Left (s : Values) (v : ℤ) : Type 0 where
   low : range_inclusive_start s ≤ℤ v
   high : v ≤ℤ range_inclusive_end s
 
-module _ {F : Type 0} (g : Mut F (ℤ × Unit {0}) Bool) (f : F) (P : ℤ → Type 0) (holds : (x : ℤ) (q : F) → Called g f (x, tt) true q → (q ≡ f) × P x) (fails : (x : ℤ) (q : F) → Called g f (x, tt) false q → P x → false ≡ true) where
-  abbrev Ends : F → Bool → Option ℤ → Type 0
-  Ends j r o = MatchOption o (r ≡ true) (λ x. (r ≡ false) × ((h : F) × Called g j (x, tt) false h))
+abbrev Ends : {F : Type 0} → Mut F (ℤ × Unit {0}) Bool → F → F → Bool → Option ℤ → Type 0
+Ends g f j r o = MatchOption o (r ≡ true) (λ x. (r ≡ false) × ((h : _) × Called g j (x, tt) false h))
 
-  ended : (s u : Values) (o : Option ℤ) (r : Bool) → steps s o u → Ends f r o → Decides r ((v : ℤ) → Left s v → P v)
+module _ {F : Type 0} (g : Mut F (ℤ × Unit {0}) Bool) (f : F) (P : ℤ → Type 0) (holds : (x : ℤ) (q : F) → Called g f (x, tt) true q → (q ≡ f) × P x) (fails : (x : ℤ) (q : F) → Called g f (x, tt) false q → P x → false ≡ true) where
+  ended : (s u : Values) (o : Option ℤ) (r : Bool) → steps s o u → Ends g f f r o → Decides r ((v : ℤ) → Left s v → P v)
   ended s u None r step e = (
     λ _ v l. absurd (none_left (range_inclusive_start s) (range_inclusive_end s) v (range_inclusive_exhausted s) step.1.0 l.more l.low l.high),
     λ _. e,
@@ -80,8 +80,8 @@ module _ {F : Type 0} (g : Mut F (ℤ × Unit {0}) Bool) (f : F) (P : ℤ → Ty
           | false ↦ (λ e. let next = step.1.2 e in record { more = e; low = omega (arith, ints); high = omega (arith, ints, step.0) })
         ] refl
 
-  walk : (xs : List ℤ) (s t u : Values) (j : F) (o : Option ℤ) (r : Bool) → Yields steps s xs t → steps t o u → FoldsTo (λ p x q. Called g p (x, tt) true q) f xs j → Ends j r o → Decides r ((v : ℤ) → Left s v → P v)
-  walk [] s t u j o r y step c e = subst (λ k. Decides r ((v : ℤ) → Left k v → P v)) (sym y) (ended t u o r step (subst (λ k. Ends k r o) (sym c) e))
+  walk : (xs : List ℤ) (s t u : Values) (j : F) (o : Option ℤ) (r : Bool) → Yields steps s xs t → steps t o u → FoldsTo (λ p x q. Called g p (x, tt) true q) f xs j → Ends g f j r o → Decides r ((v : ℤ) → Left s v → P v)
+  walk [] s t u j o r y step c e = subst (λ k. Decides r ((v : ℤ) → Left k v → P v)) (sym y) (ended t u o r step (subst (λ k. Ends g f k r o) (sym c) e))
   walk (x ∷ xs) s t u j o r y step c e =
       let one = holds x c.0 c.1 in
       Decides-like r
@@ -90,12 +90,14 @@ module _ {F : Type 0} (g : Mut F (ℤ × Unit {0}) Bool) (f : F) (P : ℤ → Ty
       (λ all v l. all v (below s y.0 x y.1 v l))
       (walk xs y.0 t u j o r y.2 step (subst (λ k. FoldsTo (λ p x q. Called g p (x, tt) true q) k xs j) one.0 c.2) e)
 
-  -- the clause `ran` of `all`
-  pub decides_all : (s u : Values) (r : Bool) (lo hi : ℤ) → range_inclusive_start s ≡ lo → range_inclusive_end s ≡ hi → range_inclusive_exhausted s ≡ false
-      → (xs : List ℤ) × (o : Option ℤ) × (j : F) × YieldsThen steps s xs o u × FoldsTo (λ p x q. Called g p (x, tt) true q) f xs j × Ends j r o
-      → Decides r ((v : ℤ) → in_range lo hi v ≡ true → P v)
-  decides_all s u r lo hi start end more d =
-      Decides-like r
-      (λ all v within. all v (record { more = more; low = rw start (range_low lo hi v within); high = rw end (range_high lo hi v within) }))
-      (λ all v l. all v (in_range_lem lo hi v (rw start at l.low) (rw end at l.high)))
-      (walk d.0 s d.3.0 u d.2 d.1 r d.3.1 d.3.2 d.4 d.5)
+-- the clause `ran` of `all`
+pub decides_all : {F : Type 0} {g : Mut F (ℤ × Unit {0}) Bool} {f : F} {s u : Values} {r : Bool}
+    → (xs : List ℤ) × (o : Option ℤ) × (j : F) × YieldsThen steps s xs o u × FoldsTo (λ p x q. Called g p (x, tt) true q) f xs j × Ends g f j r o
+    → (P : ℤ → Type 0) → ((x : ℤ) (q : F) → Called g f (x, tt) true q → (q ≡ f) × P x) → ((x : ℤ) (q : F) → Called g f (x, tt) false q → P x → false ≡ true)
+    → (lo hi : ℤ) → range_inclusive_start s ≡ lo → range_inclusive_end s ≡ hi → range_inclusive_exhausted s ≡ false
+    → Decides r ((v : ℤ) → in_range lo hi v ≡ true → P v)
+decides_all {g = g} {f = f} {s = s} {u = u} {r = r} d P holds fails lo hi start end more =
+    Decides-like r
+    (λ all v within. all v (record { more = more; low = rw start (range_low lo hi v within); high = rw end (range_high lo hi v within) }))
+    (λ all v l. all v (in_range_lem lo hi v (rw start at l.low) (rw end at l.high)))
+    (walk g f P holds fails d.0 s d.3.0 u d.2 d.1 r d.3.1 d.3.2 d.4 d.5)

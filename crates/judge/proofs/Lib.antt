@@ -5,3 +5,5 @@ pub mod Replying
 pub mod Tested
 pub mod Exactly
 pub mod Listed
+pub mod Bytes
+pub mod Seen

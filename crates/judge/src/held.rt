@@ -1,20 +1,18 @@
-ghost use Rattle.std.specs.Prelude.{◌≡◌, ℕ, true, false, length, IfOk, IfSome, Some, Decides};
+ghost use Rattle.std.specs.Prelude.{◌≡◌, length, IfOk, IfSome, IfNone, None, Decides};
 ghost use Rattle.std.specs.List.{slice_get};
 ghost use Rattle.questions.specs.Asking.{first_no};
-ghost use Rattle.model.specs.declared.state.State.{State};
-ghost use Rattle.systems.specs.Meaning.{receives};
+ghost use Rattle.judge.specs.Comparing.{meant, steps_on, listing_on, landings_on};
 ghost use Rattle.systems.specs.Listing.{listing};
-ghost use Rattle.judge.specs.Comparing.{meant, system_on, state_on, pair_from, steps_on, label_on, landing_on};
-ghost use Rattle.judge.specs.Likeness.{Holds, Reply, Answered};
+ghost use Rattle.judge.specs.Likeness.{Answered};
 ghost use Rattle.judge.specs.Judged.{steps_asked};
 
 use crate::aligned::Aligned;
-use crate::comparison::{Comparison, opposite, pair_from};
-use crate::index::{Index, state_on};
-use crate::numbers::{Entry, Numbers, state_fingerprint, step_fingerprint};
+use crate::comparison::Comparison;
+use crate::held_step::HeldStep;
+use crate::index::Index;
+use crate::numbers::{Numbers, state_fingerprint, step_fingerprint};
 use crate::reply::is_receive;
-use model::label::Label;
-use model::state::Pair;
+use model::state::{Pair, State};
 use model::value::Value;
 use questions::Side;
 use std::alloc::{AllocError, Global};
@@ -25,6 +23,13 @@ use systems::listed::Listed;
 const MOST_HELD: u64 = 65536;
 
 impl<L: System, R: System> Comparison<'_, L, R> {
+    fn is_short(&self, side: Side, pair: &Pair) -> bool {
+        match side {
+            Side::Left => self.left.is_short(&pair.left, MOST_HELD),
+            Side::Right => self.right.is_short(&pair.right, MOST_HELD),
+        }
+    }
+
     /// The steps of the pair's state on that side, with their landings at the value.
     fn list(
         &self,
@@ -33,48 +38,57 @@ impl<L: System, R: System> Comparison<'_, L, R> {
         pair: &Pair,
         value: Value,
     ) -> Result<Vec<Listed>, AllocError>
-        ensures { IfOk result (λ v. v.items ≡ listing (system_on side (meant L.System.means R.System.means self.now)) (state_on side pair.now) value) }
+        ensures { IfOk result (λ v. v.items ≡ listing_on side (meant L.System.means R.System.means self.now) pair.now value) }
     {
         match side {
             Side::Left => self.left.list(heap, &pair.left, value),
             Side::Right => self.right.list(heap, &pair.right, value),
         }
     }
+
+    /// Where a step of the pair's state on that side lands at each value, by the value's byte.
+    fn landings(
+        &self,
+        heap: Global,
+        side: Side,
+        pair: &Pair,
+        step: u64,
+    ) -> Result<Vec<Option<State>>, AllocError>
+        ensures { IfOk result (λ v. v.items ≡ landings_on side (meant L.System.means R.System.means self.now) pair.now step) }
+    {
+        match side {
+            Side::Left => self.left.landings(heap, &pair.left, step),
+            Side::Right => self.right.landings(heap, &pair.right, step),
+        }
+    }
 }
 
-fn nth<T: Copy>(items: &[T], number: usize) -> Option<T>
+pub(crate) fn nth<T: Copy>(items: &[T], number: usize) -> Option<T>
     ensures { result ≡ slice_get items.now number }
 {
     items.get(number).copied()
 }
 
-/// Whether both steps have one label, which is no receive's.
-fn are_alike(own: &Listed, other: &Listed) -> bool
-    ensures { result ≡ true → (own.now.label ≡ other.now.label) × (receives own.now.label ≡ false) }
-{
-    own.label == other.label && !is_receive(&own.label)
-}
-
 fn numbers_of(heap: Global, steps: &[Listed]) -> Result<Numbers, AllocError> {
-    let mut entries = Vec::new(heap);
-    for (number, step) in steps.iter().enumerate() {
-        if let Some(landing) = step.landing {
-            entries.push(Entry {
-                fingerprint: step_fingerprint(&step.label, &landing),
-                number,
-            })?;
-        }
+    let mut numbers = Numbers::for_count(heap, steps.len())?;
+    for step in steps {
+        let landing = match &step.landing {
+            Some(landing) => state_fingerprint(landing),
+            None => 0,
+        };
+        numbers.enter(step_fingerprint(&step.label, landing))?;
     }
-    Ok(Numbers::sorted(entries))
+    Ok(numbers)
 }
 
 /// A pair of which the steps of both states are held, with their landings at the lowest value.
 #[derive(Drop)]
 pub(crate) struct Held<'a, L: System, R: System> {
-    between: &'a Aligned<'a, L, R>,
-    index: &'a Index,
-    pair: &'a Pair,
-    lowest: Value,
+    pub(crate) between: &'a Aligned<'a, L, R>,
+    pub(crate) heap: Global,
+    pub(crate) index: &'a Index,
+    pub(crate) pair: &'a Pair,
+    pub(crate) lowest: Value,
     left: Vec<Listed>,
     right: Vec<Listed>,
     left_numbers: Numbers,
@@ -85,7 +99,7 @@ pub(crate) struct Held<'a, L: System, R: System> {
 }
 
 impl<L: System, R: System> Held<'_, L, R> {
-    fn count(&self, side: Side) -> u64
+    pub(crate) fn count(&self, side: Side) -> u64
         ensures { result ≡ length (steps_on side (meant L.System.means R.System.means self.now.between.now.comparison.now) self.now.pair.now) }
     {
         match side {
@@ -95,9 +109,8 @@ impl<L: System, R: System> Held<'_, L, R> {
     }
 
     /// A step of the pair's state on that side.
-    fn step(&self, side: Side, number: usize) -> Option<Listed>
-        ensures label { IfSome result (λ x. label_on side (meant L.System.means R.System.means self.now.between.now.comparison.now) self.now.pair.now number ≡ Some x.label) }
-        ensures landing { IfSome result (λ x. landing_on side (meant L.System.means R.System.means self.now.between.now.comparison.now) self.now.pair.now number self.now.lowest ≡ x.landing) }
+    pub(crate) fn step(&self, side: Side, number: usize) -> Option<Listed>
+        ensures { result ≡ slice_get (listing_on side (meant L.System.means R.System.means self.now.between.now.comparison.now) self.now.pair.now self.now.lowest) number }
     {
         match side {
             Side::Left => nth(&self.left, number),
@@ -105,102 +118,55 @@ impl<L: System, R: System> Held<'_, L, R> {
         }
     }
 
-    fn numbers(&self, side: Side) -> &Numbers {
+    /// The steps of the pair's state on that side, by their labels and landings.
+    pub(crate) fn numbers(&self, side: Side) -> &Numbers {
         match side {
             Side::Left => &self.left_numbers,
             Side::Right => &self.right_numbers,
         }
     }
 
-    /// Whether both steps land, and the record holds their landings.
-    fn are_landings(&self, side: Side, own: &Listed, other: &Listed, record: usize) -> bool
-        ensures { result ≡ true → (a : State) × (b : State) × (own.now.landing ≡ Some a) × (other.now.landing ≡ Some b) × Holds self.now.between.now.comparison.now.relation.now (pair_from side a b) }
+    /// Where a step of the pair's state on that side lands at each value; none where memory is wanting.
+    pub(crate) fn landings(&self, side: Side, step: usize) -> Option<Vec<Option<State>>>
+        ensures { IfSome result (λ v. v.items ≡ landings_on side (meant L.System.means R.System.means self.now.between.now.comparison.now) self.now.pair.now step) }
     {
-        let held = nth(self.between.comparison.relation, record);
-        match (own.landing, other.landing, held) {
-            (Some(own), Some(other), Some(held)) => held == pair_from(side, own, other),
-            _ => false,
-        }
+        self.between
+            .comparison
+            .landings(self.heap, side, self.pair, step as u64)
+            .ok()
     }
 
-    /// Whether the step `reply` is a reply to the step that is seen at once: it is no receive, and the record holds their
-    /// landings.
-    fn is_seen_reply(&self, side: Side, step: usize, reply: usize, record: usize) -> bool
-        ensures { result ≡ true → Reply (meant L.System.means R.System.means self.now.between.now.comparison.now) side self.now.pair.now step reply }
+    /// A step of the pair's state on that side with what is seen of it; of a receive with its landings at each value, unless
+    /// memory is wanting.
+    fn held_step(&self, side: Side, step: usize) -> Option<HeldStep<'_, L, R>>
+        ensures none { IfNone result (slice_get (listing_on side (meant L.System.means R.System.means self.now.between.now.comparison.now) self.now.pair.now self.now.lowest) step ≡ None) }
+        ensures side { IfSome result (λ x. x.side ≡ side) }
+        ensures step { IfSome result (λ x. x.step ≡ step) }
+        ensures held { IfSome result (λ x. x.held.now ≡ self.now) }
     {
-        match (self.step(side, step), self.step(opposite(side), reply)) {
-            (Some(own), Some(other)) => {
-                are_alike(&own, &other) && self.are_landings(side, &own, &other, record)
-            }
-            _ => false,
-        }
-    }
-
-    /// Whether the step `reply`, found with the record, is a reply to the step that has the label.
-    fn is_reply(&self, side: Side, step: usize, label: &Label, reply: usize, record: usize) -> bool
-        ensures { result ≡ true → Reply (meant L.System.means R.System.means self.now.between.now.comparison.now) side self.now.pair.now step reply }
-    {
-        if is_receive(label) {
-            self.between
-                .is_reply(side, self.pair, step as u64, reply as u64)
+        let listed = self.step(side, step)?;
+        let received = if is_receive(&listed.label) {
+            self.landings(side, step)
         } else {
-            self.is_seen_reply(side, step, reply, record)
-        }
-    }
-
-    /// Whether a step that has the label, and lands on the other state of the record, is a reply to the step.
-    fn finds_reply_at(&self, side: Side, step: usize, label: &Label, record: usize) -> bool
-        ensures { result ≡ true → Answered (meant L.System.means R.System.means self.now.between.now.comparison.now) side self.now.pair.now step }
-    {
-        let opposite = opposite(side);
-        let landing = match self.between.comparison.relation.get(record) {
-            Some(pair) => state_on(opposite, pair),
-            None => return false,
+            None
         };
-        let wanted = step_fingerprint(label, &landing);
-        for entry in self.numbers(opposite).from(wanted) {
-            if entry.fingerprint != wanted {
-                return false;
-            }
-            if self.is_reply(side, step, label, entry.number, record) {
-                return true;
-            }
-        }
-        false
+        Some(HeldStep {
+            held: self,
+            side,
+            step,
+            listed,
+            received,
+        })
     }
 
-    /// Whether a reply to the step is found by the fingerprints. What is found is a reply, but one may be overlooked.
-    fn finds_reply(&self, side: Side, step: usize) -> bool
-        ensures { result ≡ true → Answered (meant L.System.means R.System.means self.now.between.now.comparison.now) side self.now.pair.now step }
-    {
-        let (label, landing) = match self.step(side, step) {
-            Some(
-                Listed {
-                    label,
-                    landing: Some(landing),
-                },
-            ) => (label, landing),
-            _ => return false,
-        };
-        let wanted = state_fingerprint(&landing);
-        for entry in self.index.on(side).from(wanted) {
-            if entry.fingerprint != wanted {
-                return false;
-            }
-            if self.finds_reply_at(side, step, &label, entry.number) {
-                return true;
-            }
-        }
-        false
-    }
-
-    /// Whether the step has a reply. Where none is found, each step is asked for by its number.
+    /// Whether the step has a reply.
     fn is_answered(&self, side: Side, step: u64) -> bool
         ensures { Decides result (Answered (meant L.System.means R.System.means self.now.between.now.comparison.now) side self.now.pair.now step) }
     {
-        let count = self.count(opposite(side));
-        self.finds_reply(side, step as usize)
-            || self.between.is_answered(side, self.pair, step, count)
+        match self.held_step(side, step as usize) {
+            Some(held_step) => held_step.is_answered(),
+            None => false,
+        }
     }
 
     /// The first step of the pair's state on the side that has no reply.
@@ -223,9 +189,7 @@ impl<L: System, R: System> Aligned<'_, L, R> {
         ensures pair { IfSome result (λ x. x.pair.now ≡ pair.now) }
     {
         let comparison = self.comparison;
-        if comparison.step_count(Side::Left, pair) > MOST_HELD
-            || comparison.step_count(Side::Right, pair) > MOST_HELD
-        {
+        if !comparison.is_short(Side::Left, pair) || !comparison.is_short(Side::Right, pair) {
             return None;
         }
         let lowest = comparison.left.range().lo;
@@ -235,6 +199,7 @@ impl<L: System, R: System> Aligned<'_, L, R> {
         let right_numbers = numbers_of(heap, &right).ok()?;
         Some(Held {
             between: self,
+            heap,
             index,
             pair,
             lowest,

@@ -1,16 +1,20 @@
-ghost use Rattle.std.specs.Prelude.{◌≡◌, true};
+ghost use Rattle.std.specs.Prelude.{◌≡◌, true, Decides};
 ghost use Rattle.judge.specs.Comparing.{state_on};
+ghost use Rattle.judge.specs.Likeness.{Holds};
 
-use crate::numbers::{Entry, Numbers, state_fingerprint};
+use crate::held::nth;
+use crate::numbers::{Numbers, pair_fingerprint, state_fingerprint};
+use lookup::first_equal;
 use model::state::{Pair, State};
 use questions::Side;
 use std::alloc::{AllocError, Global};
 
-/// The records of a relation by the states that they hold on either side.
+/// The records of a relation by the states that they hold on either side, and by both.
 #[derive(Drop)]
 pub(crate) struct Index {
     left: Numbers,
     right: Numbers,
+    pairs: Numbers,
 }
 
 /// The pair's state on that side.
@@ -23,23 +27,31 @@ pub(crate) fn state_on(side: Side, pair: &Pair) -> State
     }
 }
 
-fn entries(heap: Global, relation: &[Pair], side: Side) -> Result<Vec<Entry>, AllocError> {
-    let mut entries = Vec::new(heap);
-    for (number, pair) in relation.iter().enumerate() {
-        entries.push(Entry {
-            fingerprint: state_fingerprint(&state_on(side, pair)),
-            number,
-        })?;
+fn is_record(relation: &[Pair], number: usize, pair: &Pair) -> bool
+    ensures { result ≡ true → Holds relation.now pair.now }
+{
+    match nth(relation, number) {
+        Some(held) => held == *pair,
+        None => false,
     }
-    Ok(entries)
 }
 
 impl Index {
     pub(crate) fn make(heap: Global, relation: &[Pair]) -> Result<Index, AllocError> {
-        Ok(Index {
-            left: Numbers::sorted(entries(heap, relation, Side::Left)?),
-            right: Numbers::sorted(entries(heap, relation, Side::Right)?),
-        })
+        let count = relation.len();
+        let mut index = Index {
+            left: Numbers::for_count(heap, count)?,
+            right: Numbers::for_count(heap, count)?,
+            pairs: Numbers::for_count(heap, count)?,
+        };
+        for pair in relation {
+            let left = state_fingerprint(&pair.left);
+            let right = state_fingerprint(&pair.right);
+            index.left.enter(left)?;
+            index.right.enter(right)?;
+            index.pairs.enter(pair_fingerprint(left, right))?;
+        }
+        Ok(index)
     }
 
     /// The records by their states on that side.
@@ -48,5 +60,33 @@ impl Index {
             Side::Left => &self.left,
             Side::Right => &self.right,
         }
+    }
+
+    /// Whether the record is found. What is found is there, but one may be overlooked.
+    fn finds(&self, relation: &[Pair], pair: &Pair) -> bool
+        ensures { result ≡ true → Holds relation.now pair.now }
+    {
+        let wanted = pair_fingerprint(
+            state_fingerprint(&pair.left),
+            state_fingerprint(&pair.right),
+        );
+        let mut number = self.pairs.last(wanted);
+        for _ in 0..self.pairs.len() {
+            let Some(entry) = self.pairs.entry(number) else {
+                return false;
+            };
+            if entry.fingerprint == wanted && is_record(relation, number, pair) {
+                return true;
+            }
+            number = entry.before;
+        }
+        false
+    }
+
+    /// Whether the relation, of which this is the index, has the record.
+    pub(crate) fn holds(&self, relation: &[Pair], pair: &Pair) -> bool
+        ensures { Decides result (Holds relation.now pair.now) }
+    {
+        self.finds(relation, pair) || first_equal(relation, pair).is_some()
     }
 }

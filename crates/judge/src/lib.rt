@@ -6,8 +6,10 @@ pub mod aligned;
 pub mod comparison;
 pub mod fault;
 mod held;
+mod held_step;
 mod index;
 mod numbers;
+mod received;
 pub mod reply;
 #[cfg(test)]
 mod tests;

@@ -84,7 +84,7 @@ impl<L: System, R: System> Challenge<'_, L, R> {
 impl<L: System, R: System> Aligned<'_, L, R> {
     /// Whether the step `reply` of the pair's state on the opposite side is a reply to the step on this side.
     pub(crate) fn is_reply(&self, side: Side, pair: &Pair, step: u64, reply: u64) -> bool
-        ensures { result ≡ true → Reply (meant L.System.means R.System.means self.now.comparison.now) side pair.now step reply }
+        ensures { Decides result (Reply (meant L.System.means R.System.means self.now.comparison.now) side pair.now step reply) }
     {
         match self.comparison.label(side, pair, step) {
             Some(label) => Challenge {

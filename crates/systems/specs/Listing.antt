@@ -14,6 +14,10 @@ listed_at m v x = record { label = x.label; landing = given (in_range_of m v) (x
 abbrev pub listing : Meaning → State → ℤ → List Listed
 listing m s v = map (listed_at m v) (m.steps s)
 
--- where the step i lands at each value, by the value's byte
+-- what f gives of each value, by the value's byte
+abbrev pub by_byte : {X : Type 0} → (ℤ → X) → List X
+by_byte f = map (λ b. f (value_of b)) (range_with_len 0 256)
+
+-- where the step i lands at each value
 abbrev pub landings : Meaning → State → ℕ → List (Option State)
-landings m s i = map (λ b. landing_at m s i (value_of b)) (range_with_len 0 256)
+landings m s i = by_byte (landing_at m s i)

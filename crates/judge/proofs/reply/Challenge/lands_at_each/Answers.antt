@@ -7,7 +7,7 @@ use Rattle.judge.proofs.reply.Challenge.lands_at_each.Goals as goal
 
 pub returns : goal.returns
 returns g c =
-    let x = meant g.L.System.means g.R.System.means c.args.self.now.between.now.comparison.now in
     let own = c.args.self.now in
-    decides_all _ _ (LandsAt x own.side own.pair.now own.step c.args.reply) (λ v q k. search rules) (λ v q k. search rules) _ _ _ x.left.lo x.left.hi
-    (grind (arith, ints, to_z-of_z)) (grind (arith, ints, to_z-of_z)) c.new.ensures.exhausted c.all.ensures.ran
+    let x = meant g.L.System.means g.R.System.means own.between.now.comparison.now in
+    decides_all c.all.ensures.ran (LandsAt x own.side own.pair.now own.step c.args.reply) (λ v q k. search rules) (λ v q k. search rules) x.left.lo x.left.hi
+    (grind (arith, ints, to_z-of_z)) (grind (arith, ints, to_z-of_z)) c.new.ensures.exhausted

@@ -1,0 +1,226 @@
+ghost use Rattle.std.specs.Prelude.{◌≡◌, ℕ, ◌<◌, true, false, IfSome, Some, Decides};
+ghost use Rattle.std.proofs.Props.{props};
+ghost use Rattle.lists.specs.Words.{Stands};
+ghost use Rattle.model.specs.declared.state.State.{State};
+ghost use Rattle.systems.specs.Meaning.{receives};
+ghost use Rattle.judge.specs.Comparing.{meant, opposed, pair_from, listing_on, landings_on};
+ghost use Rattle.judge.specs.Likeness.{Holds, Reply, Answered, SeenAt};
+
+use crate::comparison::{opposite, pair_from};
+use crate::held::{Held, nth};
+use crate::index::state_on;
+use crate::numbers::{state_fingerprint, step_fingerprint};
+use crate::received::Received;
+use crate::reply::is_receive;
+use lookup::Exact;
+use model::state::{Pair, State};
+use questions::Side;
+use systems::System;
+use systems::listed::Listed;
+
+/// A held step of the pair's state on a side, to which the state on the opposite side is to reply. A receive has its landings
+/// at each value too, unless memory is wanting.
+#[derive(Drop)]
+pub(crate) struct HeldStep<'a, L: System, R: System> {
+    pub(crate) held: &'a Held<'a, L, R>,
+    pub(crate) side: Side,
+    pub(crate) step: usize,
+    pub(crate) listed: Listed,
+    pub(crate) received: Option<Vec<Option<State>>>,
+    ghost at: { Stands (listing_on side (meant L.System.means R.System.means held.now.between.now.comparison.now) held.now.pair.now held.now.lowest) listed step },
+    ghost landed: { IfSome received (λ v. v.items ≡ landings_on side (meant L.System.means R.System.means held.now.between.now.comparison.now) held.now.pair.now step) } by { Prim.hlevel props },
+}
+
+fn is_equal<T: Exact>(one: &T, other: &T) -> bool
+    ensures { Decides result (one.now ≡ other.now) }
+{
+    *one == *other
+}
+
+/// Whether both steps have one label, which is no receive's.
+fn are_alike(own: &Listed, other: &Listed) -> bool
+    ensures { result ≡ true → (own.now.label ≡ other.now.label) × (receives own.now.label ≡ false) }
+{
+    own.label == other.label && !is_receive(&own.label)
+}
+
+/// Whether both steps land, and the record holds their landings.
+fn are_landings(relation: &[Pair], side: Side, own: &Listed, other: &Listed, record: usize) -> bool
+    ensures { result ≡ true → (a : State) × (b : State) × (own.now.landing ≡ Some a) × (other.now.landing ≡ Some b) × Holds relation.now (pair_from side a b) }
+{
+    match (own.landing, other.landing, nth(relation, record)) {
+        (Some(own), Some(other), Some(held)) => held == pair_from(side, own, other),
+        _ => false,
+    }
+}
+
+impl<L: System, R: System> HeldStep<'_, L, R> {
+    fn relation(&self) -> &[Pair]
+        ensures { result.now ≡ self.now.held.now.between.now.comparison.now.relation.now }
+    {
+        self.held.between.comparison.relation
+    }
+
+    /// Whether the step `reply` is a reply that is seen at once: it is no receive, and the record holds the landings.
+    fn is_seen_reply(&self, reply: usize, record: usize) -> bool
+        ensures { result ≡ true → Reply (meant L.System.means R.System.means self.now.held.now.between.now.comparison.now) self.now.side self.now.held.now.pair.now self.now.step reply }
+    {
+        match self.held.step(opposite(self.side), reply) {
+            Some(other) => {
+                are_alike(&self.listed, &other)
+                    && are_landings(self.relation(), self.side, &self.listed, &other, record)
+            }
+            None => false,
+        }
+    }
+
+    /// Whether the step `reply` is a reply to this step, which is a receive.
+    fn is_received_reply(&self, reply: usize) -> bool
+        ensures { Decides result (Reply (meant L.System.means R.System.means self.now.held.now.between.now.comparison.now) self.now.side self.now.held.now.pair.now self.now.step reply) }
+    {
+        let held = self.held;
+        let opposite = opposite(self.side);
+        let Some(other) = held.step(opposite, reply) else {
+            return false;
+        };
+        if !is_equal(&other.label, &self.listed.label) {
+            return false;
+        }
+        match (&self.received, held.landings(opposite, reply)) {
+            (Some(own), Some(other)) => Received {
+                relation: self.relation(),
+                index: held.index,
+                side: self.side,
+                own,
+                other: &other,
+            }
+            .form_records(held.between.comparison.left.range()),
+            _ => held
+                .between
+                .is_reply(self.side, held.pair, self.step as u64, reply as u64),
+        }
+    }
+
+    /// Whether the step `reply`, found with the record, is a reply.
+    fn is_found_reply(&self, reply: usize, record: usize) -> bool
+        ensures { result ≡ true → Reply (meant L.System.means R.System.means self.now.held.now.between.now.comparison.now) self.now.side self.now.held.now.pair.now self.now.step reply }
+    {
+        if is_receive(&self.listed.label) {
+            self.is_received_reply(reply)
+        } else {
+            self.is_seen_reply(reply, record)
+        }
+    }
+
+    /// Whether a reply is found that lands on the other state of the record.
+    fn finds_reply_at(&self, record: usize) -> bool
+        ensures { result ≡ true → Answered (meant L.System.means R.System.means self.now.held.now.between.now.comparison.now) self.now.side self.now.held.now.pair.now self.now.step }
+    {
+        let opposite = opposite(self.side);
+        let Some(partner) = self.held.index.on(opposite).entry(record) else {
+            return false;
+        };
+        let wanted = step_fingerprint(&self.listed.label, partner.fingerprint);
+        let numbers = self.held.numbers(opposite);
+        let mut reply = numbers.last(wanted);
+        for _ in 0..numbers.len() {
+            let Some(entry) = numbers.entry(reply) else {
+                return false;
+            };
+            if entry.fingerprint == wanted && self.is_found_reply(reply, record) {
+                return true;
+            }
+            reply = entry.before;
+        }
+        false
+    }
+
+    /// Whether a reply is found by the fingerprints. What is found is a reply, but one may be overlooked.
+    fn finds_reply(&self) -> bool
+        ensures { result ≡ true → Answered (meant L.System.means R.System.means self.now.held.now.between.now.comparison.now) self.now.side self.now.held.now.pair.now self.now.step }
+    {
+        let Some(landing) = &self.listed.landing else {
+            return false;
+        };
+        let wanted = state_fingerprint(landing);
+        let records = self.held.index.on(self.side);
+        let mut record = records.last(wanted);
+        for _ in 0..records.len() {
+            let Some(entry) = records.entry(record) else {
+                return false;
+            };
+            if entry.fingerprint == wanted && self.finds_reply_at(record) {
+                return true;
+            }
+            record = entry.before;
+        }
+        false
+    }
+
+    /// Whether the step with that number on the opposite side has this one's label, and lands on the state.
+    fn is_alike(&self, number: usize, landing: &State) -> bool
+        ensures { Decides result (Stands (listing_on (opposed self.now.side) (meant L.System.means R.System.means self.now.held.now.between.now.comparison.now) self.now.held.now.pair.now self.now.held.now.lowest) (record { label = self.now.listed.label; landing = Some landing.now }) number) }
+    {
+        let Some(other) = self.held.step(opposite(self.side), number) else {
+            return false;
+        };
+        match &other.landing {
+            Some(own) => is_equal(&other.label, &self.listed.label) && is_equal(own, landing),
+            None => false,
+        }
+    }
+
+    /// Whether the record with that number holds this step's landing, and a step with its label lands on the record's other state.
+    fn is_seen_at(&self, number: usize) -> bool
+        ensures { Decides result (SeenAt (meant L.System.means R.System.means self.now.held.now.between.now.comparison.now) self.now.side self.now.held.now.pair.now self.now.held.now.lowest self.now.listed number) }
+    {
+        let (Some(own), Some(held)) = (self.listed.landing, nth(self.relation(), number)) else {
+            return false;
+        };
+        if !is_equal(&own, &state_on(self.side, &held)) {
+            return false;
+        }
+        let opposite = opposite(self.side);
+        let other = state_on(opposite, &held);
+        (0..self.held.count(opposite) as usize)
+            .find(|&reply| self.is_alike(reply, &other))
+            .is_some()
+    }
+
+    /// Whether the step, which is no receive, has a reply.
+    fn has_seen_reply(&self) -> bool
+        requires { receives self.now.listed.label ≡ false }
+        ensures { Decides result (Answered (meant L.System.means R.System.means self.now.held.now.between.now.comparison.now) self.now.side self.now.held.now.pair.now self.now.step) }
+    {
+        (0..self.relation().len())
+            .find(|&record| self.is_seen_at(record))
+            .is_some()
+    }
+
+    /// Whether the step, which is a receive, has a reply.
+    fn has_received_reply(&self) -> bool
+        ensures { Decides result (Answered (meant L.System.means R.System.means self.now.held.now.between.now.comparison.now) self.now.side self.now.held.now.pair.now self.now.step) }
+    {
+        (0..self.held.count(opposite(self.side)) as usize)
+            .find(|&reply| self.is_received_reply(reply))
+            .is_some()
+    }
+
+    /// Whether the step has a reply, looked for among all steps of the opposite side.
+    fn has_reply(&self) -> bool
+        ensures { Decides result (Answered (meant L.System.means R.System.means self.now.held.now.between.now.comparison.now) self.now.side self.now.held.now.pair.now self.now.step) }
+    {
+        if is_receive(&self.listed.label) {
+            self.has_received_reply()
+        } else {
+            self.has_seen_reply()
+        }
+    }
+
+    /// Whether the step has a reply.
+    pub(crate) fn is_answered(&self) -> bool
+        ensures { Decides result (Answered (meant L.System.means R.System.means self.now.held.now.between.now.comparison.now) self.now.side self.now.held.now.pair.now self.now.step) }
+    {
+        self.finds_reply() || self.has_reply()
+    }
+}
