@@ -1,7 +1,7 @@
 -- Ways that are added as copies of others. Assumes nothing.
-use Rattle.std.proofs.Common.{◌≡◌, ℕ, zero, suc, ◌+◌, ◌-◌, ◌<◌, ◌≤◌, Bool, true, false, cond, List, [], ◌∷◌, ◌++◌, map, length, get_or, take, drop, replicate, set, slice_range, filter, sym, refl, ap, ◌∙◌, subst, arith}
+use Rattle.std.proofs.Common.{◌≡◌, ℕ, zero, suc, ◌+◌, ◌-◌, ◌<◌, ◌≤◌, Bool, true, false, List, [], ◌∷◌, ◌++◌, map, length, get_or, take, drop, replicate, set, slice_range, filter, sym, refl, ap, ◌∙◌, subst, arith}
 use Rattle.std.specs.List.{range_with_len, flat_map}
-use Rattle.std.proofs.lemmas.List.{append_assoc, append-nil, map-append, length-replicate, take_all, take-append-le, get_or_append_left, set_at, flat_map_more}
+use Rattle.std.proofs.lemmas.List.{append_assoc, map-append, length-replicate, take_all, take-append-le, get_or_append_left, set_at, flat_map_more}
 use Rattle.std.proofs.lemmas.List.Edits.{between_more}
 use Rattle.std.proofs.lemmas.Slice.{between_is}
 use Rattle.lists.specs.Products.{product}
@@ -9,11 +9,11 @@ use Rattle.lists.proofs.Listed.{counting_more}
 use Rattle.lists.proofs.Adding.{sifting_yes, sifting_no}
 use Rattle.model.specs.declared.state.State.{State}
 use Rattle.ways.specs.declared.way.Choice.{Choice}
-use Rattle.ways.specs.declared.way.Choice.TheVariants.{Stay, Take}
+use Rattle.ways.specs.declared.way.Choice.TheVariants.{Stay}
 use Rattle.ways.specs.declared.way.Way.{Way}
 use Rattle.ways.specs.declared.way.Way.TheVariants.{Act}
 use Rattle.ways.specs.Nets.{Net}
-use Rattle.ways.specs.Ways.{choices, listener, receivable_rows}
+use Rattle.ways.specs.Ways.{choices}
 use Rattle.ways.specs.Copies.{choosing}
 
 -- a loop that adds what f makes of the elements from a number on
@@ -88,37 +88,24 @@ module _ (n : Net) (s : State) (u k : ℕ) where
   pub listed_first : listed_from 0 ≡ map (Act u k) (product (map (choices n s u) (range_with_len 0 6)))
   listed_first = refl
 
-  listed_more : (j : ℕ) → j < 6 → listed_from j ≡ listed_from (j + 1) ++ flat_map (λ c. map (choosing j c) (listed_from (j + 1))) (cond (listener n s u j) (map Take (receivable_rows n s j)) [])
+  listed_more : (j : ℕ) → j < 6 → listed_from j ≡ listed_from (j + 1) ++ flat_map (λ c. map (choosing j c) (listed_from (j + 1))) (drop 1 (choices n s u j))
   listed_more j h =
       let F = λ (cs : List Choice). Act u k (replicate j Stay ++ cs) in
       let G = λ (cs : List Choice). Act u k (replicate (j + 1) Stay ++ cs) in
       ap (λ ks. map F (product (map (choices n s u) ks))) (counting_more j 6 h)
       ∙ product_copied F G (choosing j)
       (λ x ys. sym (ap (λ l. Act u k (set l j x)) (stays_more j ys) ∙ ap (Act u k) (set_at (replicate j Stay) Stay ys x j (length-replicate j Stay))))
-      Stay (cond (listener n s u j) (map Take (receivable_rows n s j)) []) (map (choices n s u) (range_with_len (j + 1) (6 - (j + 1))))
+      Stay (drop 1 (choices n s u j)) (map (choices n s u) (range_with_len (j + 1) (6 - (j + 1))))
       (λ ys. ap (Act u k) (sym (stays_more j ys)))
 
   -- a loop over the slots, from the last one to the first, that has come to the slot top - 1
-  module _ (was now : List Way) (top : ℕ) (some : 0 < top) (most : top ≤ 6) (inv : now ≡ was ++ listed_from top) (b : Bool) (is : b ≡ listener n s u (top - 1)) where
-    next_listed : now ++ flat_map (λ c. map (choosing (top - 1) c) (listed_from top)) (cond b (map Take (receivable_rows n s (top - 1))) []) ≡ was ++ listed_from (top - 1)
-    next_listed =
-        let rest = listed_from top in
-        let taking = map Take (receivable_rows n s (top - 1)) in
+  module _ (was now : List Way) (top : ℕ) (some : 0 < top) (most : top ≤ 6) (inv : now ≡ was ++ listed_from top) where
+    pub listing_more : (from : ℕ) (next : List Way) → from ≡ length was → next ≡ now ++ flat_map (λ c. map (choosing (top - 1) c) (drop from now)) (drop 1 (choices n s u (top - 1))) → next ≡ was ++ listed_from (top - 1)
+    listing_more from next l m =
+        let others = drop 1 (choices n s u (top - 1)) in
+        let copies = λ (ws : List Way). flat_map (λ c. map (choosing (top - 1) c) ws) others in
+        let last : drop from now ≡ listed_from top = ap (drop from) inv ∙ past from was (listed_from top) l in
         let there : top - 1 + 1 ≡ top = omega arith in
-        let more = subst (λ m. listed_from (top - 1) ≡ listed_from m ++ flat_map (λ c. map (choosing (top - 1) c) (listed_from m)) (cond (listener n s u (top - 1)) taking [])) there (listed_more (top - 1) (omega arith)) in
-        ap (λ zs. zs ++ flat_map (λ c. map (choosing (top - 1) c) rest) (cond b taking [])) inv
-        ∙ append_assoc was rest (flat_map (λ c. map (choosing (top - 1) c) rest) (cond b taking []))
-        ∙ ap (λ t. was ++ (rest ++ flat_map (λ c. map (choosing (top - 1) c) rest) (cond t taking []))) is
-        ∙ ap (λ zs. was ++ zs) (sym more)
-
-    pub slot_yes : (from : ℕ) (next : List Way) → b ≡ true → from ≡ length was → next ≡ now ++ flat_map (λ c. map (choosing (top - 1) c) (drop from now)) (map Take (receivable_rows n s (top - 1))) → next ≡ was ++ listed_from (top - 1)
-    slot_yes from next e l m =
-        let taking = map Take (receivable_rows n s (top - 1)) in
-        let tail : drop from now ≡ listed_from top = ap (drop from) inv ∙ past from was (listed_from top) l in
-        m ∙ ap (λ zs. now ++ flat_map (λ c. map (choosing (top - 1) c) zs) taking) tail
-        ∙ ap (λ t. now ++ flat_map (λ c. map (choosing (top - 1) c) (listed_from top)) (cond t taking [])) (sym e) ∙ next_listed
-
-    pub slot_no : b ≡ false → now ≡ was ++ listed_from (top - 1)
-    slot_no e =
-        let taking = map Take (receivable_rows n s (top - 1)) in
-        sym (append-nil now) ∙ ap (λ t. now ++ flat_map (λ c. map (choosing (top - 1) c) (listed_from top)) (cond t taking [])) (sym e) ∙ next_listed
+        let more = subst (λ m. listed_from (top - 1) ≡ listed_from m ++ copies (listed_from m)) there (listed_more (top - 1) (omega arith)) in
+        m ∙ ap (λ ws. now ++ copies ws) last ∙ ap (λ ws. ws ++ copies (listed_from top)) inv
+        ∙ append_assoc was (listed_from top) (copies (listed_from top)) ∙ ap (λ ws. was ++ ws) (sym more)

@@ -2,9 +2,8 @@ ghost use Rattle.std.specs.Prelude.{◌≡◌, ◌<◌, ◌≤◌, ◌++◌, map
 ghost use Rattle.std.specs.List.{range_with_len, flat_map};
 ghost use Rattle.lists.specs.Products.{product};
 ghost use Rattle.ways.specs.Nets.{net_of};
-ghost use Rattle.ways.specs.Ways.{receivable_rows, choices};
+ghost use Rattle.ways.specs.Ways.{choices};
 ghost use Rattle.ways.specs.Copies.{choosing};
-ghost use Rattle.ways.specs.declared.way.Choice.TheVariants.{Take};
 ghost use Rattle.ways.specs.declared.way.Way.TheVariants.{Act};
 
 use crate::table::Table;
@@ -53,18 +52,22 @@ fn add_copies(
 // A combination is not worked out from its number: where a slot can choose otherwise, what is listed of the later slots
 // is copied for each such choice.
 impl Table {
-    /// Adds the ways from `from` on once more for each row that the slot can receive.
-    fn add_receiving(
+    /// Adds the ways from `from` on once more for each choice of the slot but the one to stay.
+    fn add_chosen(
         &self,
         state: &State,
+        sender: usize,
         slot: usize,
         from: usize,
         ways: &mut Vec<Way>,
     ) -> Result<(), AllocError>
         requires there { from ≤ vec_len ways.old }
         requires slot_there { slot < 6 }
-        ensures { OnOk result (ways.new.items ≡ ways.old.items ++ flat_map (λ c. map (choosing slot c) (drop from ways.old.items)) (map Take (receivable_rows (net_of self.now) state.now slot))) }
+        ensures { OnOk result (ways.new.items ≡ ways.old.items ++ flat_map (λ c. map (choosing slot c) (drop from ways.old.items)) (drop 1 (choices (net_of self.now) state.now sender slot))) }
     {
+        if !self.is_listener(state, sender, slot) {
+            return Ok(());
+        }
         let to = ways.len();
         for row in 0..self.program.rows.len() {
             if self.is_receivable(state, slot, row) {
@@ -91,9 +94,7 @@ impl Table {
             choices: [Choice::Stay; UNITS],
         })?;
         for slot in (0..UNITS).rev() {
-            if self.is_listener(state, sender, slot) {
-                self.add_receiving(state, slot, from, ways)?;
-            }
+            self.add_chosen(state, sender, slot, from, ways)?;
         }
         Ok(())
     }

@@ -1,4 +1,4 @@
-use Rattle.std.proofs.Common.{◌≡◌, ◌++◌, map, drop, vec_items, slice_range, length, sym, ap, ◌∙◌, arith}
+use Rattle.std.proofs.Common.{◌≡◌, ◌++◌, map, drop, vec_items, length, ap, ◌∙◌, arith}
 use Rattle.std.proofs.lemmas.Result.{IfOk-at_ok}
 use Rattle.ways.specs.Nets.{net_of}
 use Rattle.ways.specs.Ways.{receivable_at}
@@ -6,8 +6,8 @@ use Rattle.ways.specs.Copies.{choosing}
 use Rattle.ways.specs.declared.way.Choice.{Choice}
 use Rattle.ways.specs.declared.way.Choice.TheVariants.{Take}
 use Rattle.ways.proofs.Copied.{blocks_yes, blocks_no, still_there}
-use Rattle.ways.proofs.table.Table.add_receiving.Goals as goal
-use Rattle.ways.proofs.table.Table.add_receiving.Goals.{then-is_receivable+in_ok-add_copies, else-is_receivable}
+use Rattle.ways.proofs.table.Table.add_chosen.Goals as goal
+use Rattle.ways.proofs.table.Table.add_chosen.Goals.{then-is_receivable+in_ok-add_copies, else-is_receivable}
 
 pub loop-row-preserved : goal.loop-row-preserved
 loop-row-preserved c =
