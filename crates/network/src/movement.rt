@@ -1,47 +1,69 @@
 ghost use Rattle.std.specs.Prelude.{◌≡◌, ◌*◌, ◌≤◌, ◌++◌, length, OnOk};
 ghost use Rattle.std.specs.List.{slice_get};
+ghost use Rattle.model.specs.Placements.{sets_of};
+ghost use Rattle.ways.specs.Landings.{moved, placed};
 ghost use Rattle.ways.specs.Nets.{net_of};
 ghost use Rattle.network.specs.Meanings.{may_move, movements_of, movements};
 
 use crate::network::Network;
 use lists::blocks::locate;
 use model::group_set::GroupSet;
+use model::placement::Placement;
 use model::state::State;
 use rules::rule::Rule;
 use std::alloc::AllocError;
-use ways::landing::moved;
 use ways::slots::unit_at;
 use ways::way::Way;
 
 impl<R: Rule> Network<R> {
-    /// Whether the unit can change to the set: another one with the same free part, in a placement that is allowed.
-    fn may_move(&self, state: &State, unit: usize, set: GroupSet) -> bool
+    /// Whether the rule allows the placement, which is that of the state, with the unit on the set.
+    // A no to the set alone spares the whole placement. A unit past the last is in no placement, so its set is not asked about.
+    fn allows_with(&self, state: &State, placement: &Placement, unit: usize, set: GroupSet) -> bool
+        requires { sets_of placement.now ≡ placed (net_of self.now.table) state.now }
+        ensures { result ≡ R.Rule.allowed self.now.rule (placed (net_of self.now.table) (moved state.now unit set)) }
+    {
+        if unit < self.table.units && !self.rule.admits(set) {
+            return false;
+        }
+        self.rule.allows(&placement.with(unit, set))
+    }
+
+    /// Whether the unit can change to the set: another one with the same free part, in a placement that is allowed. The
+    /// placement is that of the state.
+    fn may_move(&self, state: &State, placement: &Placement, unit: usize, set: GroupSet) -> bool
+        requires { sets_of placement.now ≡ placed (net_of self.now.table) state.now }
         ensures { result ≡ may_move (net_of self.now.table) (R.Rule.allowed self.now.rule) state.now unit set }
     {
         let old = unit_at(state, unit).groups;
         let free = self.table.free;
         set != old
             && set.part_within(free) == old.part_within(free)
-            && self
-                .rule
-                .allows(&self.table.placement(&moved(state, unit, set)))
+            && self.allows_with(state, placement, unit, set)
     }
 
     // The filter stands here and below, since no function can hand out an iterator that it does not name.
-    fn movement_count_of(&self, state: &State, unit: usize) -> usize
+    fn movement_count_of(&self, state: &State, placement: &Placement, unit: usize) -> usize
+        requires { sets_of placement.now ≡ placed (net_of self.now.table) state.now }
         ensures is { result ≡ length (movements_of (net_of self.now.table) (R.Rule.allowed self.now.rule) state.now unit) }
         ensures few { result ≤ 256 }
     {
         (0..=u8::MAX)
-            .filter(|&bits| self.may_move(state, unit, GroupSet { bits }))
+            .filter(|&bits| self.may_move(state, placement, unit, GroupSet { bits }))
             .count()
     }
 
-    fn movement_of(&self, state: &State, unit: usize, number: usize) -> Option<Way>
+    fn movement_of(
+        &self,
+        state: &State,
+        placement: &Placement,
+        unit: usize,
+        number: usize,
+    ) -> Option<Way>
+        requires { sets_of placement.now ≡ placed (net_of self.now.table) state.now }
         ensures { result ≡ slice_get (movements_of (net_of self.now.table) (R.Rule.allowed self.now.rule) state.now unit) number }
     {
         (0..=u8::MAX)
-            .filter(|&bits| self.may_move(state, unit, GroupSet { bits }))
+            .filter(|&bits| self.may_move(state, placement, unit, GroupSet { bits }))
             .map(|bits| Way::Move {
                 unit,
                 set: GroupSet { bits },
@@ -53,8 +75,9 @@ impl<R: Rule> Network<R> {
         ensures is { result ≡ length (movements (net_of self.now.table) (R.Rule.allowed self.now.rule) state.now) }
         ensures few { result ≤ 6 * 256 }
     {
+        let placement = self.table.placement(state);
         (0..self.table.units)
-            .map(|unit| self.movement_count_of(state, unit))
+            .map(|unit| self.movement_count_of(state, &placement, unit))
             .sum()
     }
 
@@ -62,34 +85,42 @@ impl<R: Rule> Network<R> {
         ensures { result ≡ slice_get (movements (net_of self.now.table) (R.Rule.allowed self.now.rule) state.now) number }
     {
         let units = self.table.units;
-        let (unit, left) = locate(units, |unit| self.movement_count_of(state, unit), number)?;
-        self.movement_of(state, unit, left)
+        let placement = self.table.placement(state);
+        let (unit, left) = locate(
+            units,
+            |unit| self.movement_count_of(state, &placement, unit),
+            number,
+        )?;
+        self.movement_of(state, &placement, unit, left)
     }
 
     // A loop, since each push may want memory.
     fn add_movements_of(
         &self,
         state: &State,
+        placement: &Placement,
         unit: usize,
         ways: &mut Vec<Way>,
     ) -> Result<(), AllocError>
+        requires { sets_of placement.now ≡ placed (net_of self.now.table) state.now }
         ensures { OnOk result (ways.new.items ≡ ways.old.items ++ movements_of (net_of self.now.table) (R.Rule.allowed self.now.rule) state.now unit) }
     {
         for bits in 0..=u8::MAX {
             let set = GroupSet { bits };
-            if self.may_move(state, unit, set) {
+            if self.may_move(state, placement, unit, set) {
                 ways.push(Way::Move { unit, set })?;
             }
         }
         Ok(())
     }
 
-    /// Adds the movements, asking the rule once for each set of each unit.
+    /// Adds the movements, asking the rule at most once for each set of each unit.
     pub(crate) fn add_movements(&self, state: &State, ways: &mut Vec<Way>) -> Result<(), AllocError>
         ensures { OnOk result (ways.new.items ≡ ways.old.items ++ movements (net_of self.now.table) (R.Rule.allowed self.now.rule) state.now) }
     {
+        let placement = self.table.placement(state);
         for unit in 0..self.table.units {
-            self.add_movements_of(state, unit, ways)?;
+            self.add_movements_of(state, &placement, unit, ways)?;
         }
         Ok(())
     }

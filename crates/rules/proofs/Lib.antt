@@ -1,1 +1,2 @@
 pub mod Parked
+pub mod Refused

@@ -1,6 +1,7 @@
 ghost use Rattle.std.specs.Prelude.{◌&&◌};
 
 use crate::rule::Rule;
+use model::group_set::GroupSet;
 use model::placement::Placement;
 
 /// What both of two rules allow.
@@ -15,5 +16,9 @@ impl<A: Rule, B: Rule> Rule for Both<A, B> {
 
     fn allows(&self, placement: &Placement) -> bool {
         self.one.allows(placement) && self.other.allows(placement)
+    }
+
+    fn admits(&self, set: GroupSet) -> bool {
+        self.one.admits(set) && self.other.admits(set)
     }
 }

@@ -7,6 +7,7 @@ ghost use Rattle.rules.specs.Tuners.{tuned_to, tuner_asked};
 use crate::fault::RuleFault;
 use crate::rule::Rule;
 use crate::tuner::Tuner;
+use model::group_set::GroupSet;
 use model::placement::Placement;
 
 impl Tuner {
@@ -32,5 +33,9 @@ impl Rule for Tuner {
             .sets()
             .iter()
             .all(|set| set.count() <= u32::from(self.limit))
+    }
+
+    fn admits(&self, set: GroupSet) -> bool {
+        set.count() <= u32::from(self.limit)
     }
 }

@@ -1,14 +1,14 @@
 -- The sum of what a closure answers at the numbers below n. Assumes nothing.
-use Rattle.std.proofs.Common.{◌≡◌, ℕ, ◌+◌, ◌-◌, ◌/◌, ◌<◌, ◌≤◌, List, length, map, sym, ◌∙◌, arith}
+use Rattle.std.proofs.Common.{◌≡◌, ℕ, ◌+◌, ◌-◌, ◌/◌, ◌<◌, ◌≤◌, arith}
 use Rattle.std.specs.declared.iter.Map.{Map}
 use Rattle.std.specs.declared.ops.Range.{Range}
-use Rattle.std.specs.List.{range_with_len, flat_map, fold}
+use Rattle.std.specs.List.{fold}
 use Rattle.std.specs.Iterator.Adapters.{map_source, map_callee, map_steps}
 use Rattle.std.specs.Iterator.Runs.{EachRunFrom}
 use Rattle.std.proofs.iter.Yields.{nat_range_steps}
 use Rattle.std.proofs.lemmas.List.FromFn.{length-range_with_len}
 use Rattle.std.proofs.lemmas.Iterator.{YieldsList-from_range}
-use Rattle.std.proofs.lemmas.Iterator.Adapters.{YieldsAtMost, fits_from_length, at_most_from_yields_List}
+use Rattle.std.proofs.lemmas.Iterator.Adapters.{fits_from_length, at_most_from_yields_List}
 use denote.Param.Members.{Mut, Called}
 
 module _ {F : Type 0} (g : Mut F (ℕ × Unit {0}) ℕ) (f : F) {s : Map (Range ℕ) F} (n most : ℕ) (few : n ≤ most) (source : map_source s ≡ record { start = 0; end = n }) (callee : map_callee s ≡ f) where

@@ -1,3 +1,4 @@
 pub mod Nets
 pub mod Ways
 pub mod Landings
+pub mod Copies

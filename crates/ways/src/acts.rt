@@ -14,7 +14,7 @@ use rows::row::Action;
 // The state is the argument of each call of a system: a struct of table and state would be made anew at each.
 impl Table {
     /// How many combinations of choices go with a row of this action.
-    fn action_count(&self, state: &State, unit: usize, action: Action) -> usize
+    pub(crate) fn action_count(&self, state: &State, unit: usize, action: Action) -> usize
         ensures is { result ≡ length (combinations (net_of self.now) state.now unit action) }
         ensures few { result ≤ 65 ^ 6 }
     {

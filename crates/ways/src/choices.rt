@@ -11,7 +11,7 @@ use model::state::State;
 
 impl Table {
     /// Whether the unit can take the row to receive.
-    fn is_receivable(&self, state: &State, unit: usize, row: usize) -> bool
+    pub(crate) fn is_receivable(&self, state: &State, unit: usize, row: usize) -> bool
         ensures { result ≡ receivable_at (net_of self.now) state.now unit row }
     {
         self.row(row).is_receivable(&unit_at(state, unit))
@@ -38,7 +38,7 @@ impl Table {
     }
 
     /// Whether `unit` is another unit than the sender, and linked to it.
-    fn is_listener(&self, state: &State, sender: usize, unit: usize) -> bool
+    pub(crate) fn is_listener(&self, state: &State, sender: usize, unit: usize) -> bool
         ensures { result ≡ listener (net_of self.now) state.now sender unit }
     {
         unit < self.units

@@ -4,6 +4,7 @@
 mod acts;
 mod broadcasts;
 mod choices;
+mod copies;
 pub mod landing;
 mod listing;
 pub mod slots;

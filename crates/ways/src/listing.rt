@@ -3,10 +3,13 @@ ghost use Rattle.ways.specs.Nets.{net_of};
 ghost use Rattle.ways.specs.Ways.{acts_by, acts_of, acts};
 ghost use Rattle.ways.specs.Landings.{listed_of};
 
+use crate::slots::unit_at;
 use crate::table::Table;
-use crate::way::Way;
+use crate::way::{Choice, Way};
 use model::state::State;
+use model::unit_state::UNITS;
 use model::value::Value;
+use rows::row::Action;
 use std::alloc::{AllocError, Global};
 use systems::listed::Listed;
 
@@ -21,8 +24,16 @@ impl Table {
     ) -> Result<(), AllocError>
         ensures { OnOk result (ways.new.items ≡ ways.old.items ++ acts_by (net_of self.now) state.now unit row) }
     {
-        for number in 0..self.count_by(state, unit, row) {
-            ways.push(self.act_by(state, unit, row, number))?;
+        let taken = self.row(row);
+        if !taken.is_enabled(&unit_at(state, unit)) {
+            return Ok(());
+        }
+        if let Action::Broadcast(_) = taken.action {
+            return self.add_combinations(state, unit, row, ways);
+        }
+        if self.action_count(state, unit, taken.action) > 0 {
+            let choices = [Choice::Stay; UNITS];
+            ways.push(Way::Act { unit, row, choices })?;
         }
         Ok(())
     }
