@@ -1,10 +1,11 @@
-"""What a judge does that compares step by step and walks the relation at each look-up."""
+"""What a judge does that compares step by step and walks the relation at each look-up: more than the proved judge does, which
+goes so only where memory is wanting, or a state has too many steps to hold. The cases are chosen so that it could."""
 
 from typing import NamedTuple
 
 from reference import LEFT, RIGHT, No, Network, is_receive, judge_pair, list_steps, load_job
 
-# Rough times of the proved judge, in microseconds.
+# Rough times of such a judge, in microseconds.
 ASKING = 10
 COMPARING = 1
 
