@@ -1,15 +1,15 @@
 #![tactic(auto)]
 
-ghost use Rattle.std.specs.Prelude.{◌≡◌, length, IfOk};
+ghost use Rattle.std.specs.Prelude.{◌≡◌, ◌≤◌, true, length, IfOk};
 ghost use Rattle.systems.specs.Meaning.{Meaning, Keeps, label_at, landing_at};
-ghost use Rattle.systems.specs.Listing.{listing};
+ghost use Rattle.systems.specs.Listing.{listing, landings};
 
 use crate::listed::Listed;
 use model::group_set::GroupSet;
 use model::label::Label;
 use model::range::Range;
 use model::state::State;
-use model::value::Value;
+use model::value::{Value, value_of};
 use std::alloc::{AllocError, Global};
 
 pub mod listed;
@@ -55,6 +55,29 @@ pub trait System {
             }
         }
         Ok(steps)
+    }
+
+    /// Whether the list of the state is known to have at most so many steps. A yes is certain; a no may only say that it is
+    /// not easily told.
+    fn is_short(&self, state: &State, most: u64) -> bool
+        ensures { result ≡ true → length ((means self.now).steps state.now) ≤ most }
+    {
+        self.step_count(state) <= most
+    }
+
+    /// Where a step lands at each value, by the value's byte: none at a value out of range, and at every value where the list
+    /// has no such step.
+    fn landings(
+        &self,
+        heap: Global,
+        state: &State,
+        step: u64,
+    ) -> Result<Vec<Option<State>>, AllocError>
+        ensures { IfOk result (λ v. v.items ≡ landings (means self.now) state.now step) }
+    {
+        (0..=u8::MAX)
+            .map(|byte| self.landing(state, step, value_of(byte)))
+            .collect(heap)
     }
 
     ghost keeps: { (x : Self) → Keeps (means x) };
