@@ -1,3 +1,5 @@
 pub mod Slots
 pub mod Sets
 pub mod Placed
+pub mod Landed
+pub mod Short

@@ -1,12 +1,11 @@
 -- From ways to steps, and what a network keeps as a system. Assumes nothing.
-use Rattle.std.specs.Prelude.{◌≡◌, ℕ, ◌+◌, Bool, true, false, cond, List, [], ◌∷◌, ◌++◌, map, length, ℤ, ◌≤ℤ◌, IfOk, Some, None, Result, refl}
+use Rattle.std.specs.Prelude.{◌≡◌, ℕ, ◌+◌, Bool, true, false, cond, List, [], ◌∷◌, ◌++◌, map, length, ℤ, ◌≤ℤ◌, IfOk, Result, refl}
 use Rattle.std.proofs.Common.{sym, ap, ◌∙◌}
-use Rattle.std.specs.List.{slice_get}
 use Rattle.std.proofs.lemmas.List.{length-map, length-append}
 use Rattle.std.proofs.lemmas.Result.{IfOk-weaker}
 use Rattle.std.proofs.lemmas.Bool.{true≢false}
-use Rattle.lists.specs.Words.{through, given, Stands}
-use Rattle.lists.proofs.Mapped.{mapped_from, mapped_some, mapped_none}
+use Rattle.lists.specs.Words.{given, Stands}
+use Rattle.lists.proofs.Mapped.{mapped_from}
 use Rattle.model.specs.Ranges.{in_range}
 use Rattle.model.specs.declared.group_set.GroupSet.{GroupSet}
 use Rattle.model.specs.declared.state.State.{State}
@@ -24,23 +23,6 @@ use Rattle.network.specs.Meanings.{set_of, ways, lawful_ways, union_shown, netwo
 -- how many steps there are
 pub count_when : {X Y : Type 0} (f : X → Y) (b : Bool) (xs ys : List X) (n m : ℕ) → true ≡ b → n ≡ length xs → m ≡ length ys → n + m ≡ length (map f (cond b (xs ++ ys) []))
 count_when f b xs ys n m e p q = ap (λ x. x + m) p ∙ ap (λ x. length xs + x) q ∙ sym (length-append xs ys) ∙ sym (length-map (xs ++ ys) f) ∙ ap (λ c. length (map f (cond c (xs ++ ys) []))) e
-
--- a landing, with the value v as the code passes it, v'
-module _ (f : Way → Step) (xs : List Way) (i : ℕ) (lo hi v v' : ℤ) (same : v' ≡ v) (b : Bool) (tests : b ≡ in_range lo hi v') where
-  test_is : (t : Bool) → b ≡ t → t ≡ in_range lo hi v
-  test_is t e = sym e ∙ tests ∙ ap (in_range lo hi) same
-
-  pub land_some : (w : Way) (r : State) → b ≡ true → Some w ≡ slice_get xs i → r ≡ (f w).landing v' → Some r ≡ cond (in_range lo hi v) (through (λ x. x.landing v) (slice_get (map f xs) i)) None
-  land_some w r t e q =
-      ap Some (q ∙ ap (f w).landing same) ∙ mapped_some f (λ x. x.landing v) xs i w e
-      ∙ ap (λ y. cond y (through (λ x. x.landing v) (slice_get (map f xs) i)) None) (test_is true t)
-
-  pub land_none : b ≡ true → None ≡ slice_get xs i → None ≡ cond (in_range lo hi v) (through (λ (x : Step). x.landing v) (slice_get (map f xs) i)) None
-  land_none t e =
-      mapped_none f (λ x. x.landing v) xs i e ∙ ap (λ y. cond y (through (λ x. x.landing v) (slice_get (map f xs) i)) None) (test_is true t)
-
-  pub land_out : b ≡ false → None ≡ cond (in_range lo hi v) (through (λ (x : Step). x.landing v) (slice_get (map f xs) i)) None
-  land_out t = ap (λ y. cond y (through (λ x. x.landing v) (slice_get (map f xs) i)) None) (test_is false t)
 
 module _ (n : Net) (s : State) where
   -- only a receive may land differently by value

@@ -1,7 +1,10 @@
-ghost use Rattle.std.specs.Prelude.{◌≡◌, IfOk};
+ghost use Rattle.std.specs.Prelude.{◌≡◌, ◌≤◌, true, cond, length, IfOk, None};
 ghost use Rattle.std.specs.List.{slice_get};
+ghost use Rattle.lists.specs.Words.{through};
+ghost use Rattle.model.specs.Ranges.{in_range};
+ghost use Rattle.ways.specs.Landings.{landing_of};
 ghost use Rattle.ways.specs.Nets.{net_of};
-ghost use Rattle.network.specs.Meanings.{ways, lawful_ways, network_meaning};
+ghost use Rattle.network.specs.Meanings.{movements, ways, lawful_ways, network_meaning};
 ghost use Rattle.network.specs.Steps;
 
 use crate::lawful::union_shown;
@@ -10,7 +13,7 @@ use model::group_set::GroupSet;
 use model::label::Label;
 use model::range::Range;
 use model::state::State;
-use model::value::Value;
+use model::value::{Value, value_of};
 use rules::rule::Rule;
 use std::alloc::{AllocError, Global};
 use systems::System;
@@ -52,6 +55,24 @@ impl<R: Rule> Network<R> {
         self.add_movements(state, &mut ways)?;
         self.table.with_acts(state, ways)
     }
+
+    /// Where a way lands at a value; none where there is no way, or the value is out of range.
+    fn landing_by(&self, state: &State, way: Option<Way>, value: Value) -> Option<State>
+        ensures { result ≡ cond (in_range self.now.table.program.range.lo self.now.table.program.range.hi value) (through (λ x. landing_of (net_of self.now.table) state.now x value) way) None }
+    {
+        if !self.table.program.range.holds(value) {
+            return None;
+        }
+        let way = way?;
+        Some(self.table.landing_of(state, &way, value))
+    }
+
+    /// Whether there are at most so many movements. They are counted only where that many are possible.
+    fn movements_fit(&self, state: &State, room: u64) -> bool
+        ensures { result ≡ true → length (movements (net_of self.now.table) (R.Rule.allowed self.now.rule) state.now) ≤ room }
+    {
+        room >= 6 * 256 || self.movement_count(state) as u64 <= room
+    }
 }
 
 impl<R: Rule> System for Network<R> {
@@ -90,15 +111,30 @@ impl<R: Rule> System for Network<R> {
     }
 
     fn landing(&self, state: &State, step: u64, value: Value) -> Option<State> {
-        if !self.table.program.range.holds(value) {
-            return None;
-        }
-        let way = self.way(state, step as usize)?;
-        Some(self.table.landing_of(state, &way, value))
+        self.landing_by(state, self.way(state, step as usize), value)
     }
 
     fn list(&self, heap: Global, state: &State, value: Value) -> Result<Vec<Listed>, AllocError> {
         let ways = self.ways(heap, state)?;
         self.table.list_of(heap, state, &ways, value)
+    }
+
+    // Movements are few, so mostly the rows alone tell.
+    fn is_short(&self, state: &State, most: u64) -> bool {
+        let acts = self.table.act_count(state) as u64;
+        acts <= most && self.movements_fit(state, most - acts)
+    }
+
+    // The way is looked for once, and not for each value.
+    fn landings(
+        &self,
+        heap: Global,
+        state: &State,
+        step: u64,
+    ) -> Result<Vec<Option<State>>, AllocError> {
+        let way = self.way(state, step as usize);
+        (0..=u8::MAX)
+            .map(|byte| self.landing_by(state, way, value_of(byte)))
+            .collect(heap)
     }
 }

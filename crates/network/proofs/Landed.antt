@@ -1,0 +1,26 @@
+-- The landings of a step, from the way that it comes about by. Assumes nothing.
+use Rattle.std.proofs.Common.{◌≡◌, ℕ, zero, suc, Bool, cond, List, [], ◌∷◌, map, ℤ, None, Option, refl, ap, ◌∙◌}
+use Rattle.std.specs.List.{slice_get}
+use Rattle.lists.specs.Words.{through}
+use Rattle.model.specs.Ranges.{in_range}
+use Rattle.model.specs.declared.group_set.GroupSet.{GroupSet}
+use Rattle.model.specs.declared.state.State.{State}
+use Rattle.systems.specs.Meaning.{landing_at}
+use Rattle.ways.specs.declared.way.Way.{Way}
+use Rattle.ways.specs.Nets.{Net}
+use Rattle.ways.specs.Landings.{landing_of, step_of}
+use Rattle.network.specs.Meanings.{lawful_ways, network_meaning}
+
+mapped_through : {X Y Z : Type 0} (f : X → Y) (q : Y → Z) (xs : List X) (i : ℕ) → through (λ x. q (f x)) (slice_get xs i) ≡ through q (slice_get (map f xs) i)
+mapped_through f q [] i = refl
+mapped_through f q (x ∷ xs) zero = refl
+mapped_through f q (x ∷ xs) (suc i) = mapped_through f q xs i
+
+-- where the way lands at the value v, if there is a way and v is in range
+abbrev pub landed_by : Net → State → Option Way → ℤ → Option State
+landed_by n s w v = cond (in_range n.lo n.hi v) (through (λ x. landing_of n s x v) w) None
+
+pub landed : (n : Net) (allowed : List GroupSet → Bool) (s : State) (i : ℕ) (v : ℤ) (w : Option Way) → w ≡ slice_get (lawful_ways n allowed s) i → landed_by n s w v ≡ landing_at (network_meaning n allowed) s i v
+landed n allowed s i v w e =
+    ap (λ o. landed_by n s o v) e
+    ∙ ap (λ o. cond (in_range n.lo n.hi v) o None) (mapped_through (step_of n s) (λ x. x.landing v) (lawful_ways n allowed s) i)
