@@ -8,7 +8,7 @@ ghost use Rattle.judge.specs.Likeness.{Holds, Reply, Answered, SeenAt};
 
 use crate::comparison::{opposite, pair_from};
 use crate::held::{Held, nth};
-use crate::index::state_on;
+use crate::index::{is_pair, state_on};
 use crate::numbers::{state_fingerprint, step_fingerprint};
 use crate::received::Received;
 use crate::reply::is_receive;
@@ -49,7 +49,7 @@ fn are_landings(relation: &[Pair], side: Side, own: &Listed, other: &Listed, rec
     ensures { result ≡ true → (a : State) × (b : State) × (own.now.landing ≡ Some a) × (other.now.landing ≡ Some b) × Holds relation.now (pair_from side a b) }
 {
     match (own.landing, other.landing, nth(relation, record)) {
-        (Some(own), Some(other), Some(held)) => held == pair_from(side, own, other),
+        (Some(own), Some(other), Some(held)) => { is_pair(&held, &pair_from(side, own, other)) }
         _ => false,
     }
 }

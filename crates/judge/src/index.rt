@@ -27,11 +27,19 @@ pub(crate) fn state_on(side: Side, pair: &Pair) -> State
     }
 }
 
+/// Whether the pairs are equal.
+// By their bytes, which are compared at once; `==` goes from field to field.
+pub(crate) fn is_pair(one: &Pair, other: &Pair) -> bool
+    ensures { Decides result (one.now ≡ other.now) }
+{
+    one.to_bytes() == other.to_bytes()
+}
+
 fn is_record(relation: &[Pair], number: usize, pair: &Pair) -> bool
     ensures { result ≡ true → Holds relation.now pair.now }
 {
     match nth(relation, number) {
-        Some(held) => held == *pair,
+        Some(held) => is_pair(&held, pair),
         None => false,
     }
 }

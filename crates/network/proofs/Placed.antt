@@ -1,5 +1,5 @@
 -- The sets of the units once one of them has moved. Assumes nothing.
-use Rattle.std.proofs.Common.{◌≡◌, ℕ, ◌+◌, ◌<◌, ◌≤◌, Bool, true, false, cond, eqb, length, get_or, set, Some, sym, refl, ap, ◌∙◌, arith}
+use Rattle.std.proofs.Common.{◌≡◌, ℕ, ◌+◌, ◌<◌, ◌≤◌, Bool, true, false, ◌&&◌, cond, eqb, length, get_or, set, Some, sym, refl, ap, ◌∙◌, arith}
 use Rattle.std.specs.List.{slice_get}
 use Rattle.std.proofs.lemmas.Bool.{eqb-true, eqb-false}
 use Rattle.std.proofs.lemmas.Grind.{get_or-set_at}
@@ -18,6 +18,12 @@ use Rattle.ways.specs.Landings.{moved, on_set, placed}
 set_over : (g : GroupSet) (x : UnitState) (b : Bool) → (cond b (on_set x g) x).groups ≡ cond b g x.groups
 set_over g x true = refl
 set_over g x false = refl
+
+-- what is not allowed is no movement
+pub unmoved : (a b c : Bool) → c ≡ false → false ≡ (a && (b && c))
+unmoved false b c e = refl
+unmoved true false c e = refl
+unmoved true true c e = sym e
 
 same_number : (j : ℕ) → 0 + j ≡ j
 same_number j = omega arith

@@ -17,23 +17,23 @@ use ways::way::Way;
 
 impl<R: Rule> Network<R> {
     /// Whether the rule allows the placement, which is that of the state, with the unit on the set.
-    // A no to the set alone spares the whole placement. A unit past the last is in no placement, so its set is not asked about.
     fn allows_with(&self, state: &State, placement: &Placement, unit: usize, set: GroupSet) -> bool
         requires { sets_of placement.now ≡ placed (net_of self.now.table) state.now }
         ensures { result ≡ R.Rule.allowed self.now.rule (placed (net_of self.now.table) (moved state.now unit set)) }
     {
-        if unit < self.table.units && !self.rule.admits(set) {
-            return false;
-        }
         self.rule.allows(&placement.with(unit, set))
     }
 
     /// Whether the unit can change to the set: another one with the same free part, in a placement that is allowed. The
     /// placement is that of the state.
+    // A no to the set alone spares the rest. A unit past the last is in no placement, so its set is not asked about.
     fn may_move(&self, state: &State, placement: &Placement, unit: usize, set: GroupSet) -> bool
         requires { sets_of placement.now ≡ placed (net_of self.now.table) state.now }
         ensures { result ≡ may_move (net_of self.now.table) (R.Rule.allowed self.now.rule) state.now unit set }
     {
+        if unit < self.table.units && !self.rule.admits(set) {
+            return false;
+        }
         let old = unit_at(state, unit).groups;
         let free = self.table.free;
         set != old

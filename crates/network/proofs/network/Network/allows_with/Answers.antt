@@ -1,13 +1,7 @@
-use Rattle.std.proofs.Common.{set, sym, ap, ◌∙◌}
-use Rattle.ways.specs.Landings.{moved, placed}
+use Rattle.std.proofs.Common.{set, ap, ◌∙◌}
 use Rattle.ways.specs.Nets.{net_of}
-use Rattle.network.proofs.Placed.{placed_moved, stands_moved}
+use Rattle.network.proofs.Placed.{placed_moved}
 use Rattle.network.proofs.network.Network.allows_with.Goals as goal
-
-pub returns-then-not-admits : goal.returns-then-not-admits
-returns-then-not-admits g c =
-    let n = net_of c.args.self.now.table in
-    sym (c.admits.ensures c.if-not-admits.true (placed n (moved c.args.state.now c.args.unit c.args.set)) c.args.unit (stands_moved n c.args.state.now c.args.unit c.args.set c.args.self.now.table.most c.if-unit-self.true))
 
 pub returns : goal.returns
 returns g c =
