@@ -7,3 +7,4 @@ pub mod Exactly
 pub mod Listed
 pub mod Bytes
 pub mod Seen
+pub mod Landed

@@ -2,3 +2,4 @@ pub mod Comparing
 pub mod Likeness
 pub mod Replies
 pub mod Judged
+pub mod Landed

@@ -3,7 +3,9 @@ ghost use Rattle.std.specs.List.{slice_get};
 ghost use Rattle.questions.specs.Asking.{first_no};
 ghost use Rattle.judge.specs.Comparing.{meant, steps_on, listing_on, landings_on};
 ghost use Rattle.systems.specs.Listing.{listing};
+ghost use Rattle.questions.specs.declared.Side.TheVariants.{Left, Right};
 ghost use Rattle.judge.specs.Likeness.{Answered};
+ghost use Rattle.judge.specs.Landed.{LandedOn};
 ghost use Rattle.judge.specs.Judged.{steps_asked};
 
 use crate::aligned::Aligned;
@@ -63,6 +65,35 @@ impl<L: System, R: System> Comparison<'_, L, R> {
     }
 }
 
+/// How a held receive lands at each value, by the value's byte.
+#[derive(Drop)]
+pub(crate) struct Landed {
+    step: usize,
+    landings: Vec<Option<State>>,
+}
+
+impl<L: System, R: System> Comparison<'_, L, R> {
+    /// How the receives among the steps of the pair's state on that side land.
+    fn landed(
+        &self,
+        heap: Global,
+        side: Side,
+        pair: &Pair,
+        steps: &[Listed],
+    ) -> Result<Vec<Landed>, AllocError>
+        ensures { IfOk result (λ v. LandedOn (meant L.System.means R.System.means self.now) side pair.now v.items) }
+    {
+        let mut received = Vec::new(heap);
+        for (step, listed) in steps.iter().enumerate() {
+            if is_receive(&listed.label) {
+                let landings = self.landings(heap, side, pair, step as u64)?;
+                received.push(Landed { step, landings })?;
+            }
+        }
+        Ok(received)
+    }
+}
+
 pub(crate) fn nth<T: Copy>(items: &[T], number: usize) -> Option<T>
     ensures { result ≡ slice_get items.now number }
 {
@@ -85,7 +116,6 @@ fn numbers_of(heap: Global, steps: &[Listed]) -> Result<Numbers, AllocError> {
 #[derive(Drop)]
 pub(crate) struct Held<'a, L: System, R: System> {
     pub(crate) between: &'a Aligned<'a, L, R>,
-    pub(crate) heap: Global,
     pub(crate) index: &'a Index,
     pub(crate) pair: &'a Pair,
     pub(crate) lowest: Value,
@@ -93,9 +123,13 @@ pub(crate) struct Held<'a, L: System, R: System> {
     right: Vec<Listed>,
     left_numbers: Numbers,
     right_numbers: Numbers,
+    left_received: Vec<Landed>,
+    right_received: Vec<Landed>,
     ghost low: { lowest ≡ (L.System.means between.now.comparison.now.left.now).lo },
     ghost left_listed: { left.items ≡ listing (L.System.means between.now.comparison.now.left.now) pair.now.left lowest },
     ghost right_listed: { right.items ≡ listing (R.System.means between.now.comparison.now.right.now) pair.now.right lowest },
+    ghost left_landed: { LandedOn (meant L.System.means R.System.means between.now.comparison.now) Left pair.now left_received.items },
+    ghost right_landed: { LandedOn (meant L.System.means R.System.means between.now.comparison.now) Right pair.now right_received.items },
 }
 
 impl<L: System, R: System> Held<'_, L, R> {
@@ -126,36 +160,38 @@ impl<L: System, R: System> Held<'_, L, R> {
         }
     }
 
-    /// Where a step of the pair's state on that side lands at each value; none where memory is wanting.
-    pub(crate) fn landings(&self, side: Side, step: usize) -> Option<Vec<Option<State>>>
-        ensures { IfSome result (λ v. v.items ≡ landings_on side (meant L.System.means R.System.means self.now.between.now.comparison.now) self.now.pair.now step) }
+    fn received(&self, side: Side) -> &[Landed]
+        ensures { LandedOn (meant L.System.means R.System.means self.now.between.now.comparison.now) side self.now.pair.now result.now }
     {
-        self.between
-            .comparison
-            .landings(self.heap, side, self.pair, step as u64)
-            .ok()
+        match side {
+            Side::Left => &self.left_received,
+            Side::Right => &self.right_received,
+        }
     }
 
-    /// A step of the pair's state on that side with what is seen of it; of a receive with its landings at each value, unless
-    /// memory is wanting.
+    /// Where a receive of the pair's state on that side lands at each value.
+    pub(crate) fn landings(&self, side: Side, step: usize) -> Option<&[Option<State>]>
+        ensures { IfSome result (λ v. v.now ≡ landings_on side (meant L.System.means R.System.means self.now.between.now.comparison.now) self.now.pair.now step) }
+    {
+        for landed in self.received(side) {
+            if landed.step == step {
+                return Some(&landed.landings);
+            }
+        }
+        None
+    }
+
     fn held_step(&self, side: Side, step: usize) -> Option<HeldStep<'_, L, R>>
         ensures none { IfNone result (slice_get (listing_on side (meant L.System.means R.System.means self.now.between.now.comparison.now) self.now.pair.now self.now.lowest) step ≡ None) }
         ensures side { IfSome result (λ x. x.side ≡ side) }
         ensures step { IfSome result (λ x. x.step ≡ step) }
         ensures held { IfSome result (λ x. x.held.now ≡ self.now) }
     {
-        let listed = self.step(side, step)?;
-        let received = if is_receive(&listed.label) {
-            self.landings(side, step)
-        } else {
-            None
-        };
         Some(HeldStep {
             held: self,
             side,
             step,
-            listed,
-            received,
+            listed: self.step(side, step)?,
         })
     }
 
@@ -197,9 +233,10 @@ impl<L: System, R: System> Aligned<'_, L, R> {
         let right = comparison.list(heap, Side::Right, pair, lowest).ok()?;
         let left_numbers = numbers_of(heap, &left).ok()?;
         let right_numbers = numbers_of(heap, &right).ok()?;
+        let left_received = comparison.landed(heap, Side::Left, pair, &left).ok()?;
+        let right_received = comparison.landed(heap, Side::Right, pair, &right).ok()?;
         Some(Held {
             between: self,
-            heap,
             index,
             pair,
             lowest,
@@ -207,6 +244,8 @@ impl<L: System, R: System> Aligned<'_, L, R> {
             right,
             left_numbers,
             right_numbers,
+            left_received,
+            right_received,
         })
     }
 }

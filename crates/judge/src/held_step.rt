@@ -1,5 +1,4 @@
 ghost use Rattle.std.specs.Prelude.{◌≡◌, ℕ, ◌<◌, true, false, IfSome, Some, Decides};
-ghost use Rattle.std.proofs.Props.{props};
 ghost use Rattle.lists.specs.Words.{Stands};
 ghost use Rattle.model.specs.declared.state.State.{State};
 ghost use Rattle.systems.specs.Meaning.{receives};
@@ -18,17 +17,14 @@ use questions::Side;
 use systems::System;
 use systems::listed::Listed;
 
-/// A held step of the pair's state on a side, to which the state on the opposite side is to reply. A receive has its landings
-/// at each value too, unless memory is wanting.
+/// A held step of the pair's state on a side, to which the state on the opposite side is to reply.
 #[derive(Drop)]
 pub(crate) struct HeldStep<'a, L: System, R: System> {
     pub(crate) held: &'a Held<'a, L, R>,
     pub(crate) side: Side,
     pub(crate) step: usize,
     pub(crate) listed: Listed,
-    pub(crate) received: Option<Vec<Option<State>>>,
     ghost at: { Stands (listing_on side (meant L.System.means R.System.means held.now.between.now.comparison.now) held.now.pair.now held.now.lowest) listed step },
-    ghost landed: { IfSome received (λ v. v.items ≡ landings_on side (meant L.System.means R.System.means held.now.between.now.comparison.now) held.now.pair.now step) } by { Prim.hlevel props },
 }
 
 fn is_equal<T: Exact>(one: &T, other: &T) -> bool
@@ -86,13 +82,16 @@ impl<L: System, R: System> HeldStep<'_, L, R> {
         if !is_equal(&other.label, &self.listed.label) {
             return false;
         }
-        match (&self.received, held.landings(opposite, reply)) {
+        match (
+            held.landings(self.side, self.step),
+            held.landings(opposite, reply),
+        ) {
             (Some(own), Some(other)) => Received {
                 relation: self.relation(),
                 index: held.index,
                 side: self.side,
                 own,
-                other: &other,
+                other,
             }
             .form_records(held.between.comparison.left.range()),
             _ => held

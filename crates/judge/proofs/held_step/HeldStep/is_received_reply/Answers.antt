@@ -24,7 +24,7 @@ returns-in-Some-Some g c =
     let x = meant g.L.System.means g.R.System.means between.comparison.now in
     let both = c.in-Some-Some in
     let form = formed_in_bytes c.relation.result.now own.side _ _ (landing_on own.side x held.pair.now own.step) (landing_on (opposed own.side) x held.pair.now c.args.reply) _ _ c.form_records.result
-    (c.deref.ensures.value ∙ rw both.is-0 at own.landed) (rw c.opposite-opposite.ensures at (c.deref-in-Some-Some.ensures.value ∙ both.ensures)) c.form_records.ensures.low c.form_records.ensures.high c.form_records.ensures.each in
+    both.ensures (rw c.opposite-opposite.ensures at both.ensures') c.form_records.ensures.low c.form_records.ensures.high c.form_records.ensures.each in
     reply_each x own.side c.opposite-opposite.result held.pair.now own.step c.args.reply own.listed.label c.form_records.result
     between.one_range c.opposite-opposite.ensures (listed_label x own.side held.pair.now held.lowest own.step own.listed own.at)
     (listed_label x c.opposite-opposite.result held.pair.now held.lowest c.args.reply c.in-Some.other (sym c.step.ensures ∙ c.in-Some.is) ∙ ap Some (c.is_equal.ensures.0 c.if-not-is_equal.false))
