@@ -120,18 +120,9 @@ impl<L: System, R: System> HeldStep<'_, L, R> {
             return false;
         };
         let wanted = step_fingerprint(&self.listed.label, partner.fingerprint);
-        let numbers = self.held.numbers(opposite);
-        let mut reply = numbers.last(wanted);
-        for _ in 0..numbers.len() {
-            let Some(entry) = numbers.entry(reply) else {
-                return false;
-            };
-            if entry.fingerprint == wanted && self.is_found_reply(reply, record) {
-                return true;
-            }
-            reply = entry.before;
-        }
-        false
+        self.held
+            .numbers(opposite)
+            .any(wanted, |reply| self.is_found_reply(reply, record))
     }
 
     /// Whether a reply is found by the fingerprints. What is found is a reply, but one may be overlooked.
@@ -141,19 +132,12 @@ impl<L: System, R: System> HeldStep<'_, L, R> {
         let Some(landing) = &self.listed.landing else {
             return false;
         };
-        let wanted = state_fingerprint(landing);
-        let records = self.held.index.on(self.side);
-        let mut record = records.last(wanted);
-        for _ in 0..records.len() {
-            let Some(entry) = records.entry(record) else {
-                return false;
-            };
-            if entry.fingerprint == wanted && self.finds_reply_at(record) {
-                return true;
-            }
-            record = entry.before;
-        }
-        false
+        self.held
+            .index
+            .on(self.side)
+            .any(state_fingerprint(landing), |record| {
+                self.finds_reply_at(record)
+            })
     }
 
     /// Whether the step with that number on the opposite side has this one's label, and lands on the state.

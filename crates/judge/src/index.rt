@@ -78,17 +78,8 @@ impl Index {
             state_fingerprint(&pair.left),
             state_fingerprint(&pair.right),
         );
-        let mut number = self.pairs.last(wanted);
-        for _ in 0..self.pairs.len() {
-            let Some(entry) = self.pairs.entry(number) else {
-                return false;
-            };
-            if entry.fingerprint == wanted && is_record(relation, number, pair) {
-                return true;
-            }
-            number = entry.before;
-        }
-        false
+        self.pairs
+            .any(wanted, |number| is_record(relation, number, pair))
     }
 
     /// Whether the relation, of which this is the index, has the record.

@@ -1,3 +1,5 @@
+ghost use Rattle.std.specs.Prelude.{◌≡◌, ℕ, true};
+
 use model::label::Label;
 use model::state::State;
 use model::unit_state::UnitState;
@@ -8,7 +10,7 @@ use std::alloc::{AllocError, Global};
 #[derive(Clone, Copy)]
 pub(crate) struct Entry {
     pub(crate) fingerprint: u64,
-    pub(crate) before: usize,
+    before: usize,
 }
 
 /// Where things stand in their list, by their fingerprints. Equal things have one fingerprint, and others seldom do. The
@@ -96,17 +98,32 @@ impl Numbers {
         Ok(())
     }
 
-    pub(crate) fn len(&self) -> usize {
-        self.entries.len()
-    }
-
     pub(crate) fn entry(&self, number: usize) -> Option<Entry> {
         self.entries.get(number).copied()
     }
 
     /// The number of the last thing in the bucket that things with this fingerprint are in.
-    pub(crate) fn last(&self, fingerprint: u64) -> usize {
+    fn last(&self, fingerprint: u64) -> usize {
         let bucket = self.bucket(fingerprint);
         self.buckets.get(bucket).copied().unwrap_or(NONE)
+    }
+
+    /// Whether the test says yes of a thing with that fingerprint, by its number. Such a thing may be overlooked.
+    pub(crate) fn any<F: Fn(usize) -> bool>(&self, fingerprint: u64, test: F) -> bool
+        requires { F.IsAlwaysCallable test }
+        ensures { result ≡ true → (k : ℕ) × F.post test k true }
+    {
+        let mut number = self.last(fingerprint);
+        // at most all of them, so that it ends whatever the entries say
+        for _ in 0..self.entries.len() {
+            let Some(entry) = self.entry(number) else {
+                return false;
+            };
+            if entry.fingerprint == fingerprint && test(number) {
+                return true;
+            }
+            number = entry.before;
+        }
+        false
     }
 }
