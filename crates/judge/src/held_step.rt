@@ -41,10 +41,10 @@ fn are_alike(own: &Listed, other: &Listed) -> bool
 }
 
 /// Whether both steps land, and the record holds their landings.
-fn are_landings(relation: &[Pair], side: Side, own: &Listed, other: &Listed, record: usize) -> bool
+fn are_landings(relation: &[Pair], side: Side, own: &Listed, other: &Listed, place: usize) -> bool
     ensures { result ≡ true → (a : State) × (b : State) × (own.now.landing ≡ Some a) × (other.now.landing ≡ Some b) × Holds relation.now (pair_from side a b) }
 {
-    match (own.landing, other.landing, nth(relation, record)) {
+    match (own.landing, other.landing, nth(relation, place)) {
         (Some(own), Some(other), Some(held)) => { is_pair(&held, &pair_from(side, own, other)) }
         _ => false,
     }
@@ -58,13 +58,13 @@ impl<L: System, R: System> HeldStep<'_, L, R> {
     }
 
     /// Whether the step `reply` is a reply that is seen at once: it is no receive, and the record holds the landings.
-    fn is_seen_reply(&self, reply: usize, record: usize) -> bool
+    fn is_seen_reply(&self, reply: usize, place: usize) -> bool
         ensures { result ≡ true → Reply (meant L.System.means R.System.means self.now.held.now.between.now.comparison.now) self.now.side self.now.held.now.pair.now self.now.step reply }
     {
         match self.held.step(opposite(self.side), reply) {
             Some(other) => {
                 are_alike(&self.listed, &other)
-                    && are_landings(self.relation(), self.side, &self.listed, &other, record)
+                    && are_landings(self.relation(), self.side, &self.listed, &other, place)
             }
             None => false,
         }
@@ -101,28 +101,28 @@ impl<L: System, R: System> HeldStep<'_, L, R> {
     }
 
     /// Whether the step `reply`, found with the record, is a reply.
-    fn is_found_reply(&self, reply: usize, record: usize) -> bool
+    fn is_found_reply(&self, reply: usize, place: usize) -> bool
         ensures { result ≡ true → Reply (meant L.System.means R.System.means self.now.held.now.between.now.comparison.now) self.now.side self.now.held.now.pair.now self.now.step reply }
     {
         if is_receive(&self.listed.label) {
             self.is_received_reply(reply)
         } else {
-            self.is_seen_reply(reply, record)
+            self.is_seen_reply(reply, place)
         }
     }
 
     /// Whether a reply is found that lands on the other state of the record.
-    fn finds_reply_at(&self, record: usize) -> bool
+    fn finds_reply_at(&self, place: usize) -> bool
         ensures { result ≡ true → Answered (meant L.System.means R.System.means self.now.held.now.between.now.comparison.now) self.now.side self.now.held.now.pair.now self.now.step }
     {
         let opposite = opposite(self.side);
-        let Some(partner) = self.held.index.on(opposite).entry(record) else {
+        let Some(partner) = self.held.index.on(opposite).entry(place) else {
             return false;
         };
         let wanted = step_fingerprint(&self.listed.label, partner.fingerprint);
         self.held
             .numbers(opposite)
-            .any(wanted, |reply| self.is_found_reply(reply, record))
+            .any(wanted, |reply| self.is_found_reply(reply, place))
     }
 
     /// Whether a reply is found by the fingerprints. What is found is a reply, but one may be overlooked.
@@ -135,8 +135,8 @@ impl<L: System, R: System> HeldStep<'_, L, R> {
         self.held
             .index
             .on(self.side)
-            .any(state_fingerprint(landing), |record| {
-                self.finds_reply_at(record)
+            .any(state_fingerprint(landing), |place| {
+                self.finds_reply_at(place)
             })
     }
 
@@ -176,7 +176,7 @@ impl<L: System, R: System> HeldStep<'_, L, R> {
         ensures { Decides result (Answered (meant L.System.means R.System.means self.now.held.now.between.now.comparison.now) self.now.side self.now.held.now.pair.now self.now.step) }
     {
         (0..self.relation().len())
-            .find(|&record| self.is_seen_at(record))
+            .find(|&place| self.is_seen_at(place))
             .is_some()
     }
 
