@@ -3,3 +3,4 @@ pub mod Sets
 pub mod Placed
 pub mod Landed
 pub mod Short
+pub mod Admitted

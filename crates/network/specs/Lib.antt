@@ -1,3 +1,4 @@
 pub mod Meanings
 pub mod Loads
 pub mod Steps
+pub mod Admitted

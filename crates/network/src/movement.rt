@@ -1,9 +1,10 @@
-ghost use Rattle.std.specs.Prelude.{◌≡◌, ◌*◌, ◌≤◌, ◌++◌, length, OnOk};
+ghost use Rattle.std.specs.Prelude.{◌≡◌, ◌*◌, ◌≤◌, ◌<◌, ◌++◌, length, IfOk, OnOk};
 ghost use Rattle.std.specs.List.{slice_get};
 ghost use Rattle.model.specs.Placements.{sets_of};
 ghost use Rattle.ways.specs.Landings.{moved, placed};
 ghost use Rattle.ways.specs.Nets.{net_of};
-ghost use Rattle.network.specs.Meanings.{may_move, movements_of, movements};
+ghost use Rattle.network.specs.Meanings.{set_numbers, may_move, movements_of, movements};
+ghost use Rattle.network.specs.Admitted.{Covers};
 
 use crate::network::Network;
 use lists::blocks::locate;
@@ -11,7 +12,7 @@ use model::group_set::GroupSet;
 use model::placement::Placement;
 use model::state::State;
 use rules::rule::Rule;
-use std::alloc::AllocError;
+use std::alloc::{AllocError, Global};
 use ways::slots::unit_at;
 use ways::way::Way;
 
@@ -94,18 +95,34 @@ impl<R: Rule> Network<R> {
         self.movement_of(state, &placement, unit, left)
     }
 
+    /// The sets that the rule admits, in order, so that the others are asked about once for all units.
+    fn admitted(&self, heap: Global) -> Result<Vec<u8>, AllocError>
+        ensures { IfOk result (λ v. Covers (R.Rule.allowed self.now.rule) v.items set_numbers) }
+    {
+        let mut sets = Vec::new(heap);
+        for bits in 0..=u8::MAX {
+            if self.rule.admits(GroupSet { bits }) {
+                sets.push(bits)?;
+            }
+        }
+        Ok(sets)
+    }
+
     // A loop, since each push may want memory.
     fn add_movements_of(
         &self,
         state: &State,
         placement: &Placement,
+        sets: &[u8],
         unit: usize,
         ways: &mut Vec<Way>,
     ) -> Result<(), AllocError>
-        requires { sets_of placement.now ≡ placed (net_of self.now.table) state.now }
+        requires placed { sets_of placement.now ≡ placed (net_of self.now.table) state.now }
+        requires covers { Covers (R.Rule.allowed self.now.rule) sets.now set_numbers }
+        requires unit { unit < self.now.table.units }
         ensures { OnOk result (ways.new.items ≡ ways.old.items ++ movements_of (net_of self.now.table) (R.Rule.allowed self.now.rule) state.now unit) }
     {
-        for bits in 0..=u8::MAX {
+        for &bits in sets {
             let set = GroupSet { bits };
             if self.may_move(state, placement, unit, set) {
                 ways.push(Way::Move { unit, set })?;
@@ -115,12 +132,18 @@ impl<R: Rule> Network<R> {
     }
 
     /// Adds the movements, asking the rule at most once for each set of each unit.
-    pub(crate) fn add_movements(&self, state: &State, ways: &mut Vec<Way>) -> Result<(), AllocError>
+    pub(crate) fn add_movements(
+        &self,
+        heap: Global,
+        state: &State,
+        ways: &mut Vec<Way>,
+    ) -> Result<(), AllocError>
         ensures { OnOk result (ways.new.items ≡ ways.old.items ++ movements (net_of self.now.table) (R.Rule.allowed self.now.rule) state.now) }
     {
         let placement = self.table.placement(state);
+        let sets = self.admitted(heap)?;
         for unit in 0..self.table.units {
-            self.add_movements_of(state, &placement, unit, ways)?;
+            self.add_movements_of(state, &placement, &sets, unit, ways)?;
         }
         Ok(())
     }

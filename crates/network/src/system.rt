@@ -52,7 +52,7 @@ impl<R: Rule> Network<R> {
         if !self.is_state_lawful(state) {
             return Ok(ways);
         }
-        self.add_movements(state, &mut ways)?;
+        self.add_movements(heap, state, &mut ways)?;
         self.table.with_acts(state, ways)
     }
 
