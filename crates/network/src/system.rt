@@ -56,6 +56,28 @@ impl<R: Rule> Network<R> {
         self.table.with_acts(state, ways)
     }
 
+    /// The way of the step with this number, by listing the movements, which costs less than to count them.
+    fn way_held(
+        &self,
+        heap: Global,
+        state: &State,
+        number: usize,
+    ) -> Result<Option<Way>, AllocError>
+        ensures { IfOk result (λ w. w ≡ slice_get (lawful_ways (net_of self.now.table) (R.Rule.allowed self.now.rule) state.now) number) }
+    {
+        if !self.is_lawful(state) {
+            return Ok(None);
+        }
+        let mut movements = Vec::new(heap);
+        self.add_movements(heap, state, &mut movements)?;
+        let count = movements.len();
+        if number < count {
+            Ok(movements.get(number).copied())
+        } else {
+            Ok(self.table.act(state, number - count))
+        }
+    }
+
     /// Where a way lands at a value; none where there is no way, or the value is out of range.
     fn landing_by(&self, state: &State, way: Option<Way>, value: Value) -> Option<State>
         ensures { result ≡ cond (in_range self.now.table.program.range.lo self.now.table.program.range.hi value) (through (λ x. landing_of (net_of self.now.table) state.now x value) way) None }
@@ -132,7 +154,7 @@ impl<R: Rule> System for Network<R> {
         state: &State,
         step: u64,
     ) -> Result<Vec<Option<State>>, AllocError> {
-        let way = self.way(state, step as usize);
+        let way = self.way_held(heap, state, step as usize)?;
         (0..=u8::MAX)
             .map(|byte| self.landing_by(state, way, value_of(byte)))
             .collect(heap)

@@ -15,5 +15,5 @@ returns g c =
     let s = c.args.state.now in
     let allowed = g.R.Rule.allowed c.args.self.now.rule in
     IfOk-weaker c.collect.result _ _
-    (λ v e. e ∙ (λ i. map (λ b. landed n allowed s c.args.step (value_of b) c.way-way.result c.way-way.ensures i) (range_with_len 0 256)))
-    (items_from_collect c.collect.result c.collect.ensures.ran (YieldsList-from_map _ (λ b. landed_by n s c.way-way.result (value_of b)) (YieldsList-from_inclusive 0 256 (range_with_len 0 256) refl (cc) (cc) (search rules)) c.map.ensures.closure (λ x r q k. search (rules, to_z-of_z))))
+    (λ v e. e ∙ (λ i. map (λ b. landed n allowed s c.args.step (value_of b) c.in_ok-way.way c.in_ok-way.ensures i) (range_with_len 0 256)))
+    (items_from_collect c.collect.result c.collect.ensures.ran (YieldsList-from_map _ (λ b. landed_by n s c.in_ok-way.way (value_of b)) (YieldsList-from_inclusive 0 256 (range_with_len 0 256) refl (cc) (cc) (search rules)) c.map.ensures.closure (λ x r q k. search (rules, to_z-of_z))))
