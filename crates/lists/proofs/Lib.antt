@@ -6,7 +6,6 @@ pub mod Members
 pub mod Ordered
 pub mod Adding
 pub mod Gathered
-pub mod Kept
 pub mod Mapped
 pub mod LaidOut
 pub mod Ranges

@@ -1,5 +1,6 @@
 -- Steps of loops over a list. Assumes nothing.
-use Rattle.std.proofs.Common.{◌≡◌, ℕ, zero, suc, ◌+◌, Bool, true, List, [], ◌∷◌, ◌++◌, map, take, Some, refl, ap, ◌∙◌, add-zero, arith}
+use Rattle.std.proofs.Common.{◌≡◌, ℕ, zero, suc, ◌+◌, Bool, true, List, [], ◌∷◌, ◌++◌, map, take, Some, sym, refl, ap, ◌∙◌, add-zero, arith}
+use mathlib.Core.List.{map-id}
 use Rattle.std.specs.List.{slice_get}
 use Rattle.std.proofs.lemmas.List.{map_more}
 use Rattle.std.proofs.lemmas.Option.{slice_get-get_or}
@@ -29,3 +30,7 @@ module _ {X : Type 0} (f : ℕ → X → Bool) where
 pub map_take_more : {X Y : Type 0} (f : X → Y) (xs : List X) (k : ℕ) (x : X) → slice_get xs k ≡ Some x → map f (take (k + 1) xs) ≡ map f (take k xs) ++ f x ∷ []
 map_take_more f xs k x at =
     map_more f xs k x (nth_within xs k x at) ∙ ap (λ y. map f (take k xs) ++ f y ∷ []) (some_same (slice_get xs k) _ x (slice_get-get_or xs k x (nth_within xs k x at)) at)
+
+-- a loop that takes the elements one by one
+pub take_nth : {X : Type 0} (xs : List X) (k : ℕ) (x : X) → slice_get xs k ≡ Some x → take (k + 1) xs ≡ take k xs ++ x ∷ []
+take_nth xs k x at = sym (map-id (take (k + 1) xs)) ∙ map_take_more (λ y. y) xs k x at ∙ ap (λ ys. ys ++ x ∷ []) (map-id (take k xs))

@@ -1,5 +1,5 @@
 -- What stands at a place of a list that is mapped. Assumes nothing.
-use Rattle.std.proofs.Common.{◌≡◌, ℕ, zero, suc, List, [], ◌∷◌, map, Some, None, refl, ap, arith}
+use Rattle.std.proofs.Common.{◌≡◌, ℕ, zero, suc, Bool, true, false, cond, List, [], ◌∷◌, map, filter, Some, refl, ap, arith}
 use Rattle.std.specs.List.{slice_get}
 use Rattle.lists.specs.Words.{through}
 
@@ -10,13 +10,22 @@ module _ {X Y : Type 0} (f : X → Y) where
   mapped_from (x ∷ xs) zero y e = (x, refl, cc)
   mapped_from (x ∷ xs) (suc i) y e = mapped_from xs i y e
 
-  module _ {Z : Type 0} (q : Y → Z) where
-    pub mapped_some : (xs : List X) (i : ℕ) (x : X) → Some x ≡ slice_get xs i → Some (q (f x)) ≡ through q (slice_get (map f xs) i)
-    mapped_some [] i x e = let z : ◌≡◌ {A = ℕ} 0 1 = cc in absurd (omega arith)
-    mapped_some (y ∷ ys) zero x e = let s : x ≡ y = cc in ap (λ v. Some (q (f v))) s
-    mapped_some (y ∷ ys) (suc i) x e = mapped_some ys i x e
+  -- what q makes of it
+  pub mapped_through : {Z : Type 0} (q : Y → Z) (xs : List X) (i : ℕ) → through (λ x. q (f x)) (slice_get xs i) ≡ through q (slice_get (map f xs) i)
+  mapped_through q [] i = refl
+  mapped_through q (x ∷ xs) zero = refl
+  mapped_through q (x ∷ xs) (suc i) = mapped_through q xs i
 
-    pub mapped_none : (xs : List X) (i : ℕ) → None ≡ slice_get xs i → None ≡ through q (slice_get (map f xs) i)
-    mapped_none [] i e = refl
-    mapped_none (y ∷ ys) zero e = let z : ◌≡◌ {A = ℕ} 0 1 = cc in absurd (omega arith)
-    mapped_none (y ∷ ys) (suc i) e = mapped_none ys i e
+  pub nth_mapped : (xs : List X) (i : ℕ) → slice_get (map f xs) i ≡ through f (slice_get xs i)
+  nth_mapped [] i = refl
+  nth_mapped (x ∷ xs) zero = refl
+  nth_mapped (x ∷ xs) (suc i) = nth_mapped xs i
+
+  -- those that pass a test
+  pub mapped_kept : (p : Y → Bool) (xs : List X) → filter p (map f xs) ≡ map f (filter (λ x. p (f x)) xs)
+  mapped_kept p [] = refl
+  mapped_kept p (x ∷ xs) =
+      elim (p (f x)) as (λ b. cond b (f x ∷ filter p (map f xs)) (filter p (map f xs)) ≡ map f (cond b (x ∷ filter (λ y. p (f y)) xs) (filter (λ y. p (f y)) xs))) [
+        | true ↦ ap (λ ys. f x ∷ ys) (mapped_kept p xs)
+        | false ↦ mapped_kept p xs
+      ]

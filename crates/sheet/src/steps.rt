@@ -1,4 +1,5 @@
-ghost use Rattle.std.specs.Prelude.{◌≡◌, map, length, IfOk};
+ghost use Rattle.std.specs.Prelude.{◌≡◌, map, length, filter, IfOk};
+ghost use Rattle.systems.specs.Meaning.{receives};
 ghost use Rattle.std.specs.List.{slice_get};
 ghost use Rattle.sheet.specs.States.{number_of};
 ghost use Rattle.sheet.specs.Meaning.{target, step_of, rows_from, ways_of, listed_row};
@@ -23,6 +24,12 @@ impl Row {
             Kind::Broadcast { groups, value } => Label::Broadcast { groups, value },
             Kind::Receive { groups, .. } => Label::Receive { groups },
         }
+    }
+
+    fn is_receive(&self) -> bool
+        ensures { result ≡ receives (step_of self.now).label }
+    {
+        matches!(self.kind, Kind::Receive { .. })
     }
 
     /// The number of the state in which the row lands for a value.
@@ -76,6 +83,17 @@ fn row_from(rows: &[Row], number: u8, step: u64) -> Option<Row>
         .copied()
 }
 
+/// The rows to receive from the state with the number.
+fn receiving_from(heap: Global, rows: &[Row], number: u8) -> Result<Vec<Row>, AllocError>
+    ensures { IfOk result (λ v. v.items ≡ filter (λ r. receives (step_of r).label) (rows_from number rows.now)) }
+{
+    rows.iter()
+        .filter(|row| row.from == number)
+        .filter(|row| row.is_receive())
+        .copied()
+        .collect(heap)
+}
+
 /// The rows from the state with the number, as a sheet of the range lists them at the value.
 fn list_from(
     heap: Global,
@@ -110,6 +128,13 @@ impl Sheet {
         } else {
             None
         }
+    }
+
+    /// The rows to receive from a lawful state.
+    pub(crate) fn receiving_rows(&self, heap: Global, state: &State) -> Result<Vec<Row>, AllocError>
+        ensures { IfOk result (λ v. v.items ≡ filter (λ r. receives (step_of r).label) (rows_from (number_of state.now) self.now.rows.items)) }
+    {
+        receiving_from(heap, &self.rows, number_of(state))
     }
 
     /// The steps of a lawful state, listed at the value.

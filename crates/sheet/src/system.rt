@@ -1,6 +1,7 @@
-ghost use Rattle.sheet.specs.Meaning.{sheet_meaning};
+ghost use Rattle.sheet.specs.Meaning.{sheet_meaning, step_of};
 ghost use Rattle.sheet.specs.Stepping;
 
+use crate::row::Row;
 use crate::sheet::Sheet;
 use crate::states::is_lawful;
 use model::group_set::GroupSet;
@@ -13,7 +14,11 @@ use systems::System;
 use systems::listed::Listed;
 
 impl System for Sheet {
+    type Receive = Row;
+
     ghost means = { sheet_meaning };
+
+    ghost receive_by = { λ t s r. step_of r };
 
     ghost keeps = { λ t. Stepping.keeps t };
 
@@ -58,5 +63,18 @@ impl System for Sheet {
         } else {
             Ok(Vec::new(heap))
         }
+    }
+
+    fn receives(&self, heap: Global, state: &State) -> Result<Vec<Row>, AllocError> {
+        if is_lawful(state) {
+            self.receiving_rows(heap, state)
+        } else {
+            Ok(Vec::new(heap))
+        }
+    }
+
+    fn landing_by(&self, _state: &State, receive: &Row, value: Value) -> Option<State> {
+        let is_in_range = self.range.holds(value);
+        is_in_range.then(|| receive.landing(value))
     }
 }

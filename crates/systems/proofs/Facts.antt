@@ -20,7 +20,7 @@ pub label_none : (o : Option Step) → through (λ x. x.label) o ≡ None → o 
 label_none None e = refl
 label_none (Some x) e = let z : ◌≡◌ {A = ℕ} 0 1 = cc in absurd (omega arith)
 
-given_cond : {X : Type 0} (b : Bool) (x : X) → cond b (Some x) None ≡ given b x
+pub given_cond : {X : Type 0} (b : Bool) (x : X) → cond b (Some x) None ≡ given b x
 given_cond true x = refl
 given_cond false x = refl
 

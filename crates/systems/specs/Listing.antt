@@ -1,11 +1,9 @@
--- The steps of a state, and the landings of a step, as lists of plain values.
-use Rattle.std.specs.Prelude.{ℕ, List, map, ℤ, Option}
-use Rattle.std.specs.List.{range_with_len}
+-- The steps of a state as a list of plain values, and the receives among steps.
+use Rattle.std.specs.Prelude.{List, map, filter, ℤ}
 use Rattle.lists.specs.Words.{given}
 use Rattle.model.specs.declared.state.State.{State}
 use Rattle.systems.specs.declared.listed.Listed.{Listed}
-use Rattle.model.specs.Values.{value_of}
-use Rattle.systems.specs.Meaning.{Meaning, Step, in_range_of, landing_at}
+use Rattle.systems.specs.Meaning.{Meaning, Step, in_range_of, receives}
 
 -- a step with its label, and its landing at the value v
 abbrev pub listed_at : Meaning → ℤ → Step → Listed
@@ -14,10 +12,6 @@ listed_at m v x = record { label = x.label; landing = given (in_range_of m v) (x
 abbrev pub listing : Meaning → State → ℤ → List Listed
 listing m s v = map (listed_at m v) (m.steps s)
 
--- what f gives of each value, by the value's byte
-abbrev pub by_byte : {X : Type 0} → (ℤ → X) → List X
-by_byte f = map (λ b. f (value_of b)) (range_with_len 0 256)
-
--- where the step i lands at each value
-abbrev pub landings : Meaning → State → ℕ → List (Option State)
-landings m s i = by_byte (landing_at m s i)
+-- the receives among the steps
+abbrev pub receives_in : List Step → List Step
+receives_in xs = filter (λ x. receives x.label) xs

@@ -1,15 +1,17 @@
 #![tactic(auto)]
 
-ghost use Rattle.std.specs.Prelude.{◌≡◌, ◌≤◌, true, length, IfOk};
-ghost use Rattle.systems.specs.Meaning.{Meaning, Keeps, label_at, landing_at};
-ghost use Rattle.systems.specs.Listing.{listing, landings};
+ghost use Rattle.std.specs.Prelude.{◌≡◌, ◌≤◌, map, length, IfOk, Decides};
+ghost use Rattle.systems.specs.Meaning.{Meaning, Step, Keeps, in_range_of, label_at, landing_at};
+ghost use Rattle.systems.specs.Listing.{listing, receives_in};
+ghost use Rattle.lists.specs.Words.{given};
+ghost use Rattle.model.specs.declared.state.State.{State};
 
 use crate::listed::Listed;
 use model::group_set::GroupSet;
 use model::label::Label;
 use model::range::Range;
 use model::state::State;
-use model::value::{Value, value_of};
+use model::value::Value;
 use std::alloc::{AllocError, Global};
 
 pub mod listed;
@@ -17,7 +19,13 @@ pub mod listed;
 /// A system, known by what it means: a range, which states are lawful, the channel set that each lawful state shows, and
 /// the list of steps of each state, with a label and a landing for each value in range. Asking changes nothing.
 pub trait System {
+    /// What a receive of a state is told by.
+    type Receive: Copy;
+
     ghost means: { Self → Meaning };
+
+    // the step that a receive stands for, by what it is told by
+    ghost receive_by: { Self → State → Self.Receive → Step };
 
     fn range(&self) -> Range
         ensures lo { result.lo ≡ (means self.now).lo }
@@ -57,27 +65,19 @@ pub trait System {
         Ok(steps)
     }
 
-    /// Whether the list of the state is known to have at most so many steps. A yes is certain; a no may only say that it is
-    /// not easily told.
+    /// The receives among the steps of the state, in their order.
+    fn receives(&self, heap: Global, state: &State) -> Result<Vec<Self::Receive>, AllocError>
+        ensures { IfOk result (λ v. map (receive_by self.now state.now) v.items ≡ receives_in ((means self.now).steps state.now)) };
+
+    /// Where a receive lands at a value, or none where the value is out of range.
+    fn landing_by(&self, state: &State, receive: &Self::Receive, value: Value) -> Option<State>
+        ensures { result ≡ given (in_range_of (means self.now) value) ((receive_by self.now state.now receive.now).landing value) };
+
+    /// Whether the state has at most so many steps. It may be told without counting them all.
     fn is_short(&self, state: &State, most: u64) -> bool
-        ensures { result ≡ true → length ((means self.now).steps state.now) ≤ most }
+        ensures { Decides result (length ((means self.now).steps state.now) ≤ most) }
     {
         self.step_count(state) <= most
-    }
-
-    /// Where a step lands at each value, by the value's byte: none at a value out of range, and at every value where the list
-    /// has no such step.
-    fn landings(
-        &self,
-        heap: Global,
-        state: &State,
-        step: u64,
-    ) -> Result<Vec<Option<State>>, AllocError>
-        ensures { IfOk result (λ v. v.items ≡ landings (means self.now) state.now step) }
-    {
-        (0..=u8::MAX)
-            .map(|byte| self.landing(state, step, value_of(byte)))
-            .collect(heap)
     }
 
     ghost keeps: { (x : Self) → Keeps (means x) };
