@@ -1,2 +1,1 @@
 pub mod Parked
-pub mod Refused

@@ -1,3 +1,5 @@
+pub mod Admitting
+pub mod Changing
 pub mod Faults
 pub mod LinkRecords
 pub mod LinkRules

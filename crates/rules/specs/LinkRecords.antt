@@ -32,3 +32,11 @@ met_by kind (Some s) (Some t) = requires kind (linked s t)
 
 abbrev pub met : List GroupSet → Link → Bool
 met sets l = met_by l.kind (slice_get sets l.one) (slice_get sets l.other)
+
+-- one of its two units is this one
+abbrev pub concerns : ℕ → Link → Bool
+concerns unit l = l.one == unit || l.other == unit
+
+-- met, if it concerns the unit
+abbrev pub met_of : ℕ → List GroupSet → Link → Bool
+met_of unit sets l = not (concerns unit l) || met sets l

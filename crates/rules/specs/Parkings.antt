@@ -21,6 +21,10 @@ parks places sets = every_from (recorded places) 0 sets
 abbrev pub parking_allows : Parking → List GroupSet → Bool
 parking_allows x = parks (vec_items x.places)
 
+-- the set is recorded for the unit, whatever the placement
+abbrev pub parking_allows_change : Parking → List GroupSet → ℕ → GroupSet → Bool
+parking_allows_change x sets unit set = recorded (vec_items x.places) unit set
+
 -- 2: whole records of two bytes, and at most 48? 3: is each as laid out?
 abbrev pub parking_asked : List ℕ → List (Question Refusal)
 parking_asked bytes = table_asked 2 3 2 48 place_of bytes

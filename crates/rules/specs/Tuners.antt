@@ -6,8 +6,12 @@ use Rattle.questions.specs.declared.Refusal.{Refusal}
 use Rattle.model.specs.GroupSets.{group_count}
 use Rattle.model.specs.declared.group_set.GroupSet.{GroupSet}
 
+-- the set has no more groups than the limit
+abbrev pub few_groups : ℕ → GroupSet → Bool
+few_groups limit set = leb (group_count set) limit
+
 abbrev pub tuned_to : ℕ → List GroupSet → Bool
-tuned_to limit sets = every (λ set. leb (group_count set) limit) sets
+tuned_to limit sets = every (few_groups limit) sets
 
 -- 4: is the limit at most 8?
 abbrev pub tuner_asked : ℕ → List (Question Refusal)

@@ -1,6 +1,7 @@
-ghost use Rattle.std.specs.Prelude.{◌≡◌, ◌++◌, Some, codes, ok_or};
+ghost use Rattle.std.specs.Prelude.{◌≡◌, ◌++◌, Some, codes, ok_or, slice_set};
+ghost use Rattle.std.specs.List.{slice_get};
 ghost use Rattle.std.specs.Fmt.{decimal};
-ghost use Rattle.rules.specs.LinkRecords.{kind_of, link_of, met};
+ghost use Rattle.rules.specs.LinkRecords.{concerns, kind_of, link_of, met, met_by, met_of};
 ghost use Rattle.std.proofs.Common.{rules};
 
 use model::group_set::GroupSet;
@@ -43,6 +44,14 @@ impl fmt::Display for NoLinkKind {
 
 impl Error for NoLinkKind {}
 
+/// The set of a unit, once the changed one is on its set.
+fn set_after(sets: &[GroupSet], changed: usize, set: GroupSet, unit: usize) -> Option<GroupSet>
+    ensures { result ≡ slice_get (slice_set sets.now changed set) unit }
+{
+    let before = sets.get(unit)?;
+    Some(if unit == changed { set } else { *before })
+}
+
 /// A requirement on two units.
 #[derive(Clone, Copy, PartialEq, Eq, Debug)]
 pub struct Link {
@@ -52,18 +61,46 @@ pub struct Link {
 }
 
 impl Link {
-    /// Whether the sets of a placement meet the requirement. One that names a unit past the last is not met.
-    pub fn is_met(&self, sets: &[GroupSet]) -> bool
-        ensures { result ≡ met sets.now self.now }
+    /// Whether the unit is one of the two.
+    pub(crate) fn concerns(&self, unit: usize) -> bool
+        ensures { result ≡ concerns unit self.now }
     {
-        let (Some(one), Some(other)) = (sets.get(self.one), sets.get(self.other)) else {
+        self.one == unit || self.other == unit
+    }
+
+    /// Whether both units are there, on these sets, and share a group or share none as the kind requires.
+    fn is_met_by(&self, one: Option<GroupSet>, other: Option<GroupSet>) -> bool
+        ensures { result ≡ met_by self.now.kind one other }
+    {
+        let (Some(one), Some(other)) = (one, other) else {
             return false;
         };
-        let shared = one.is_linked(*other);
+        let shared = one.is_linked(other);
         match self.kind {
             LinkKind::Joined => shared,
             LinkKind::Apart => !shared,
         }
+    }
+
+    /// Whether the sets of a placement meet the requirement. One that names a unit past the last is not met.
+    pub fn is_met(&self, sets: &[GroupSet]) -> bool
+        ensures { result ≡ met sets.now self.now }
+    {
+        self.is_met_by(sets.get(self.one).copied(), sets.get(self.other).copied())
+    }
+
+    /// The same with the unit on the set, if the requirement concerns the unit.
+    // No placement is made for it: this is asked for each set that a unit may change to.
+    pub(crate) fn is_met_after(&self, sets: &[GroupSet], unit: usize, set: GroupSet) -> bool
+        ensures { result ≡ met_of unit (slice_set sets.now unit set) self.now }
+    {
+        if !self.concerns(unit) {
+            return true;
+        }
+        self.is_met_by(
+            set_after(sets, unit, set, self.one),
+            set_after(sets, unit, set, self.other),
+        )
     }
 }
 

@@ -1,11 +1,14 @@
-ghost use Rattle.std.specs.Prelude.{◌≡◌, IfOk};
+ghost use Rattle.std.specs.Prelude.{◌≡◌, true, IfOk};
 ghost use Rattle.questions.specs.Asking.{first_no, refusal_of};
+ghost use Rattle.rules.specs.Admitting.{none_barred};
+ghost use Rattle.rules.specs.Changing.{links_followed};
 ghost use Rattle.rules.specs.Faults.{rule_refusal};
-ghost use Rattle.rules.specs.LinkRules.{meets, links_allow, links_asked, links_of};
+ghost use Rattle.rules.specs.LinkRules.{meets, links_allow, links_allow_change, links_asked, links_of};
 
 use crate::fault::RuleFault;
 use crate::link::{Link, LinkLayout};
 use crate::rule::Rule;
+use model::group_set::GroupSet;
 use model::placement::Placement;
 use std::alloc::Global;
 use tables::load;
@@ -32,8 +35,28 @@ impl Links {
 impl Rule for Links {
     ghost allowed = { links_allow };
 
+    // a link speaks of two units, so one set tells nothing
+    ghost admitted = { λ _ _. true };
+
+    ghost change_allowed = { links_allow_change };
+
+    ghost bars = { λ _ _ _ _ no _. none_barred no };
+
+    ghost follows = { λ x sets unit set yes _. links_followed sets unit set x.links.items yes };
+
     fn allows(&self, placement: &Placement) -> bool {
         let sets = placement.sets();
         self.links.iter().all(|link| link.is_met(sets))
+    }
+
+    fn admits(&self, _set: GroupSet) -> bool {
+        true
+    }
+
+    fn allows_change(&self, placement: &Placement, unit: usize, set: GroupSet) -> bool {
+        let sets = placement.sets();
+        self.links
+            .iter()
+            .all(|link| link.is_met_after(sets, unit, set))
     }
 }

@@ -1,7 +1,9 @@
-ghost use Rattle.std.specs.Prelude.{◌≡◌, IfOk};
+ghost use Rattle.std.specs.Prelude.{◌≡◌, true, IfOk};
 ghost use Rattle.questions.specs.Asking.{first_no, refusal_of};
+ghost use Rattle.rules.specs.Admitting.{none_barred};
+ghost use Rattle.rules.specs.Changing.{one_changed};
 ghost use Rattle.rules.specs.Faults.{rule_refusal};
-ghost use Rattle.rules.specs.Parkings.{recorded, parks, parking_allows, parking_asked, places_of};
+ghost use Rattle.rules.specs.Parkings.{recorded, parks, parking_allows, parking_allows_change, parking_asked, places_of};
 
 use crate::fault::RuleFault;
 use crate::place::{Place, PlaceLayout};
@@ -40,11 +42,28 @@ impl Parking {
 impl Rule for Parking {
     ghost allowed = { parking_allows };
 
+    // a set is recorded for a unit, so it is asked about with the unit
+    ghost admitted = { λ _ _. true };
+
+    ghost change_allowed = { parking_allows_change };
+
+    ghost bars = { λ _ _ _ _ no _. none_barred no };
+
+    ghost follows = { λ x sets unit set yes there. one_changed (recorded x.places.items) sets unit set yes there };
+
     fn allows(&self, placement: &Placement) -> bool {
         placement
             .sets()
             .iter()
             .enumerate()
             .all(|(unit, set)| self.records(unit, *set))
+    }
+
+    fn admits(&self, _set: GroupSet) -> bool {
+        true
+    }
+
+    fn allows_change(&self, _placement: &Placement, unit: usize, set: GroupSet) -> bool {
+        self.records(unit, set)
     }
 }

@@ -1,8 +1,10 @@
 ghost use Rattle.std.specs.Prelude.{◌≡◌, IfOk};
 ghost use Rattle.questions.specs.Asking.{first_no, refusal_of};
 ghost use Rattle.questions.specs.Certain.{Certain};
+ghost use Rattle.rules.specs.Admitting.{one_refused};
+ghost use Rattle.rules.specs.Changing.{one_changed};
 ghost use Rattle.rules.specs.Faults.{rule_refusal};
-ghost use Rattle.rules.specs.Tuners.{tuned_to, tuner_asked};
+ghost use Rattle.rules.specs.Tuners.{few_groups, tuned_to, tuner_asked};
 
 use crate::fault::RuleFault;
 use crate::rule::Rule;
@@ -28,6 +30,14 @@ impl Tuner {
 impl Rule for Tuner {
     ghost allowed = { λ x. tuned_to x.limit };
 
+    ghost admitted = { λ x. few_groups x.limit };
+
+    ghost change_allowed = { λ x _ _. few_groups x.limit };
+
+    ghost bars = { λ x set sets unit no at. one_refused (few_groups x.limit) sets unit set at no };
+
+    ghost follows = { λ x sets unit set yes there. one_changed (λ _. few_groups x.limit) sets unit set yes there };
+
     fn allows(&self, placement: &Placement) -> bool {
         placement
             .sets()
@@ -37,5 +47,9 @@ impl Rule for Tuner {
 
     fn admits(&self, set: GroupSet) -> bool {
         set.count() <= u32::from(self.limit)
+    }
+
+    fn allows_change(&self, _placement: &Placement, _unit: usize, set: GroupSet) -> bool {
+        self.admits(set)
     }
 }
