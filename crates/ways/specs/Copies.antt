@@ -1,10 +1,14 @@
--- Ways made from others.
+-- Listed steps made from others.
 use Rattle.std.specs.Prelude.{ℕ, set}
-use Rattle.ways.specs.declared.way.Choice.{Choice}
-use Rattle.ways.specs.declared.way.Way.{Way}
-use Rattle.ways.specs.declared.way.Way.TheVariants.{Move, Act}
+use Rattle.lists.specs.Words.{through}
+use Rattle.model.specs.declared.state.State.{State}
+use Rattle.model.specs.declared.unit_state.UnitState.{UnitState}
+use Rattle.systems.specs.declared.listed.Listed.{Listed}
 
--- the way in which the slot j chooses c, and all else is as in the one given
-abbrev pub choosing : ℕ → Choice → Way → Way
-choosing j c (Move u g) = Move u g
-choosing j c (Act u k cs) = Act u k (set cs j c)
+-- the state with the unit x in the slot j
+abbrev pub put : ℕ → UnitState → State → State
+put j x s = record { units = set s.units j x }
+
+-- the step that lands with the unit x in the slot j, and is else the one given
+abbrev pub placing : ℕ → UnitState → Listed → Listed
+placing j x l = record { label = l.label; landing = through (put j x) l.landing }

@@ -1,50 +1,47 @@
 ghost use Rattle.std.specs.Prelude.{◌≡◌, ◌<◌, ◌≤◌, ◌++◌, map, drop, OnOk, vec_len, slice_range};
 ghost use Rattle.std.specs.List.{range_with_len, flat_map};
 ghost use Rattle.lists.specs.Products.{product};
-ghost use Rattle.ways.specs.Nets.{net_of};
-ghost use Rattle.ways.specs.Ways.{choices};
-ghost use Rattle.ways.specs.Copies.{choosing};
+ghost use Rattle.ways.specs.Nets.{net_of, unit_at};
+ghost use Rattle.ways.specs.Ways.{choices, all_stay};
+ghost use Rattle.ways.specs.Landings.{chosen, listed_of};
+ghost use Rattle.ways.specs.Copies.{placing};
 ghost use Rattle.ways.specs.declared.way.Way.TheVariants.{Act};
 
+use crate::landing::incoming;
+use crate::slots::unit_at;
 use crate::table::Table;
-use crate::way::{Choice, Way};
 use model::state::State;
-use model::unit_state::UNITS;
+use model::unit_state::{UNITS, UnitState};
+use model::value::Value;
 use std::alloc::AllocError;
+use systems::listed::Listed;
 
-/// The way in which the slot chooses this instead.
-fn choosing(way: Way, slot: usize, choice: Choice) -> Way
-    requires { slot < 6 }
-    ensures { result ≡ choosing slot choice way }
+/// The step that lands with this unit in the slot.
+fn placing(listed: Listed, slot: usize, unit: UnitState) -> Listed
+    ensures { result ≡ placing slot unit listed }
 {
-    match way {
-        Way::Move { unit, set } => Way::Move { unit, set },
-        Way::Act {
-            unit,
-            row,
-            mut choices,
-        } => {
-            choices[slot] = choice;
-            Way::Act { unit, row, choices }
-        }
-    }
+    let label = listed.label;
+    let landing = match listed.landing {
+        Some(landing) => Some(landing.with(slot, unit)),
+        None => None,
+    };
+    Listed { label, landing }
 }
 
-/// Adds the ways with the numbers from `from` to `to` once more, with this choice in the slot.
+/// Adds the steps with the numbers from `from` to `to` once more, landing with this unit in the slot.
 fn add_copies(
-    ways: &mut Vec<Way>,
+    steps: &mut Vec<Listed>,
     from: usize,
     to: usize,
     slot: usize,
-    choice: Choice,
+    unit: UnitState,
 ) -> Result<(), AllocError>
     requires in_order { from ≤ to }
-    requires there { to ≤ vec_len ways.old }
-    requires slot_there { slot < 6 }
-    ensures { OnOk result (ways.new.items ≡ ways.old.items ++ map (choosing slot choice) (slice_range ways.old.items from to)) }
+    requires there { to ≤ vec_len steps.old }
+    ensures { OnOk result (steps.new.items ≡ steps.old.items ++ map (placing slot unit) (slice_range steps.old.items from to)) }
 {
     for number in from..to {
-        ways.push(choosing(ways[number], slot, choice))?;
+        steps.push(placing(steps[number], slot, unit))?;
     }
     Ok(())
 }
@@ -52,49 +49,67 @@ fn add_copies(
 // A combination is not worked out from its number: where a slot can choose otherwise, what is listed of the later slots
 // is copied for each such choice.
 impl Table {
-    /// Adds the ways from `from` on once more for each choice of the slot but the one to stay.
+    /// Adds the steps from `from` on once more for each choice of the slot but the one to stay, as it receives what is sent.
     fn add_chosen(
         &self,
         state: &State,
         sender: usize,
         slot: usize,
+        sent: Value,
         from: usize,
-        ways: &mut Vec<Way>,
+        steps: &mut Vec<Listed>,
     ) -> Result<(), AllocError>
-        requires there { from ≤ vec_len ways.old }
-        requires slot_there { slot < 6 }
-        ensures { OnOk result (ways.new.items ≡ ways.old.items ++ flat_map (λ c. map (choosing slot c) (drop from ways.old.items)) (drop 1 (choices (net_of self.now) state.now sender slot))) }
+        requires there { from ≤ vec_len steps.old }
+        ensures { OnOk result (steps.new.items ≡ steps.old.items ++ flat_map (λ c. map (placing slot (chosen (net_of self.now) (unit_at state.now slot) c sent)) (drop from steps.old.items)) (drop 1 (choices (net_of self.now) state.now sender slot))) }
     {
         if !self.is_listener(state, sender, slot) {
             return Ok(());
         }
-        let to = ways.len();
+        let to = steps.len();
+        let before = unit_at(state, slot);
         for row in 0..self.program.rows.len() {
             if self.is_receivable(state, slot, row) {
-                add_copies(ways, from, to, slot, Choice::Take { row })?;
+                let after = self.row(row).taken_by(&before, sent);
+                add_copies(steps, from, to, slot, after)?;
             }
         }
         Ok(())
     }
 
-    /// Adds the ways in which the sender takes a row to broadcast, with all combinations of choices.
+    /// The step in which the unit takes the row and the others stay, as it is listed at the value.
+    pub(crate) fn listed_alone(
+        &self,
+        state: &State,
+        unit: usize,
+        row: usize,
+        value: Value,
+    ) -> Listed
+        ensures { result ≡ listed_of (net_of self.now) state.now value (Act unit row all_stay) }
+    {
+        let is_in_range = self.program.range.holds(value);
+        Listed {
+            label: self.act_label(&unit_at(state, unit), self.row(row).action),
+            landing: is_in_range.then(|| self.taken_alone(state, unit, row, value)),
+        }
+    }
+
+    /// Adds the steps in which the sender takes a row to broadcast, with all combinations of choices, as they are listed at
+    /// the value.
     pub(crate) fn add_combinations(
         &self,
         state: &State,
         sender: usize,
         row: usize,
-        ways: &mut Vec<Way>,
+        value: Value,
+        steps: &mut Vec<Listed>,
     ) -> Result<(), AllocError>
-        ensures { OnOk result (ways.new.items ≡ ways.old.items ++ map (Act sender row) (product (map (choices (net_of self.now) state.now sender) (range_with_len 0 6)))) }
+        ensures { OnOk result (steps.new.items ≡ steps.old.items ++ map (listed_of (net_of self.now) state.now value) (map (Act sender row) (product (map (choices (net_of self.now) state.now sender) (range_with_len 0 6))))) }
     {
-        let from = ways.len();
-        ways.push(Way::Act {
-            unit: sender,
-            row,
-            choices: [Choice::Stay; UNITS],
-        })?;
+        let from = steps.len();
+        let sent = incoming(&unit_at(state, sender), self.row(row).action, value);
+        steps.push(self.listed_alone(state, sender, row, value))?;
         for slot in (0..UNITS).rev() {
-            self.add_chosen(state, sender, slot, from, ways)?;
+            self.add_chosen(state, sender, slot, sent, from, steps)?;
         }
         Ok(())
     }

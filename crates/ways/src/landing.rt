@@ -1,8 +1,10 @@
-ghost use Rattle.std.specs.Prelude.{◌≡◌, ◌<◌, if◌then◌else◌, nat_eq};
+ghost use Rattle.std.specs.Prelude.{◌≡◌, ◌<◌};
 ghost use Rattle.model.specs.GroupSets.{part};
 ghost use Rattle.model.specs.Placements.{sets_of};
-ghost use Rattle.ways.specs.Nets.{net_of, unit_at};
-ghost use Rattle.ways.specs.Landings.{act_label, label_of, landing_of, incoming, chosen, on_set, slot_after, acted, moved, placed};
+ghost use Rattle.ways.specs.Nets.{net_of};
+ghost use Rattle.ways.specs.Ways.{all_stay};
+ghost use Rattle.ways.specs.declared.way.Way.TheVariants.{Act};
+ghost use Rattle.ways.specs.Landings.{act_label, label_of, landing_of, incoming, chosen, slot_after, acted, moved, placed};
 
 use crate::slots::unit_at;
 use crate::table::Table;
@@ -16,7 +18,7 @@ use model::value::Value;
 use rows::row::Action;
 
 /// The value that comes in as the unit takes a row with this action.
-fn incoming(unit: &UnitState, action: Action, value: Value) -> Value
+pub(crate) fn incoming(unit: &UnitState, action: Action, value: Value) -> Value
     ensures { result ≡ incoming unit.now action value }
 {
     match action {
@@ -26,27 +28,13 @@ fn incoming(unit: &UnitState, action: Action, value: Value) -> Value
     }
 }
 
-fn slot_moved(state: &State, unit: usize, set: GroupSet, slot: usize) -> UnitState
-    ensures { result ≡ (if nat_eq slot unit then on_set (unit_at state.now slot) set else unit_at state.now slot) }
-{
-    let before = unit_at(state, slot);
-    if slot == unit {
-        UnitState {
-            groups: set,
-            ..before
-        }
-    } else {
-        before
-    }
-}
-
 /// The state after the unit has changed to the set.
 pub fn moved(state: &State, unit: usize, set: GroupSet) -> State
     ensures { result ≡ moved state.now unit set }
 {
-    State {
-        units: std::array::from_fn(|slot| slot_moved(state, unit, set, slot)),
-    }
+    let mut moving = unit_at(state, unit);
+    moving.groups = set;
+    state.with(unit, moving)
 }
 
 impl Table {
@@ -69,7 +57,7 @@ impl Table {
         }
     }
 
-    fn act_label(&self, unit: &UnitState, action: Action) -> Label
+    pub(crate) fn act_label(&self, unit: &UnitState, action: Action) -> Label
         ensures { result ≡ act_label (part self.now.free unit.now.groups) unit.now action }
     {
         let groups = unit.groups.part_within(self.free);
@@ -139,6 +127,14 @@ impl Table {
                 self.slot_after(state, unit, row, choices, value, slot)
             }),
         }
+    }
+
+    /// Where the unit lands the state as it takes the row for a value, and the others stay.
+    pub(crate) fn taken_alone(&self, state: &State, unit: usize, row: usize, value: Value) -> State
+        ensures { result ≡ landing_of (net_of self.now) state.now (Act unit row all_stay) value }
+    {
+        // Only a receive looks at the value.
+        state.with(unit, self.row(row).taken_by(&unit_at(state, unit), value))
     }
 
     /// Where a way lands for a value.

@@ -1,16 +1,18 @@
-ghost use Rattle.std.specs.Prelude.{◌≡◌, ◌++◌, map, IfOk, OnOk};
+ghost use Rattle.std.specs.Prelude.{◌≡◌, ◌++◌, map, OnOk};
 ghost use Rattle.ways.specs.Nets.{net_of};
 ghost use Rattle.ways.specs.Ways.{acts_by, acts_of, acts};
 ghost use Rattle.ways.specs.Landings.{listed_of};
+ghost use Rattle.ways.specs.declared.way.Way.TheVariants.{Move};
 
+use crate::landing::moved;
 use crate::slots::unit_at;
 use crate::table::Table;
-use crate::way::{Choice, Way};
+use model::group_set::GroupSet;
+use model::label::Label;
 use model::state::State;
-use model::unit_state::UNITS;
 use model::value::Value;
 use rows::row::Action;
-use std::alloc::{AllocError, Global};
+use std::alloc::AllocError;
 use systems::listed::Listed;
 
 // Loops, since each push may want memory; a number is itself what is asked for.
@@ -20,66 +22,62 @@ impl Table {
         state: &State,
         unit: usize,
         row: usize,
-        ways: &mut Vec<Way>,
+        value: Value,
+        steps: &mut Vec<Listed>,
     ) -> Result<(), AllocError>
-        ensures { OnOk result (ways.new.items ≡ ways.old.items ++ acts_by (net_of self.now) state.now unit row) }
+        ensures { OnOk result (steps.new.items ≡ steps.old.items ++ map (listed_of (net_of self.now) state.now value) (acts_by (net_of self.now) state.now unit row)) }
     {
         let taken = self.row(row);
         if !taken.is_enabled(&unit_at(state, unit)) {
             return Ok(());
         }
         if let Action::Broadcast(_) = taken.action {
-            return self.add_combinations(state, unit, row, ways);
+            return self.add_combinations(state, unit, row, value, steps);
         }
         if self.action_count(state, unit, taken.action) > 0 {
-            let choices = [Choice::Stay; UNITS];
-            ways.push(Way::Act { unit, row, choices })?;
+            steps.push(self.listed_alone(state, unit, row, value))?;
         }
         Ok(())
     }
 
-    fn add_acts_of(&self, state: &State, unit: usize, ways: &mut Vec<Way>) -> Result<(), AllocError>
-        ensures { OnOk result (ways.new.items ≡ ways.old.items ++ acts_of (net_of self.now) state.now unit) }
+    fn add_acts_of(
+        &self,
+        state: &State,
+        unit: usize,
+        value: Value,
+        steps: &mut Vec<Listed>,
+    ) -> Result<(), AllocError>
+        ensures { OnOk result (steps.new.items ≡ steps.old.items ++ map (listed_of (net_of self.now) state.now value) (acts_of (net_of self.now) state.now unit)) }
     {
         for row in 0..self.program.rows.len() {
-            self.add_acts_by(state, unit, row, ways)?;
+            self.add_acts_by(state, unit, row, value, steps)?;
         }
         Ok(())
     }
 
-    /// The ways, and after them those in which units take rows.
-    pub fn with_acts(&self, state: &State, ways: Vec<Way>) -> Result<Vec<Way>, AllocError>
-        ensures { IfOk result (λ v. v.items ≡ ways.items ++ acts (net_of self.now) state.now) }
-    {
-        let mut all = ways;
-        for unit in 0..self.units {
-            self.add_acts_of(state, unit, &mut all)?;
-        }
-        Ok(all)
-    }
-
-    fn listed(&self, state: &State, way: &Way, value: Value) -> Listed
-        ensures { result ≡ listed_of (net_of self.now) state.now value way.now }
+    /// The step in which the unit changes to the set, as it is listed at the value.
+    pub fn listed_movement(&self, state: &State, unit: usize, set: GroupSet, value: Value) -> Listed
+        ensures { result ≡ listed_of (net_of self.now) state.now value (Move unit set) }
     {
         let is_in_range = self.program.range.holds(value);
         Listed {
-            label: self.label_of(state, way),
-            landing: is_in_range.then(|| self.landing_of(state, way, value)),
+            label: Label::Movement,
+            landing: is_in_range.then(|| moved(state, unit, set)),
         }
     }
 
-    /// The ways as a system lists its steps, with their landings at the value.
-    pub fn list_of(
+    /// Adds the steps in which units take rows, as they are listed at the value.
+    pub fn add_acts(
         &self,
-        heap: Global,
         state: &State,
-        ways: &[Way],
         value: Value,
-    ) -> Result<Vec<Listed>, AllocError>
-        ensures { IfOk result (λ v. v.items ≡ map (listed_of (net_of self.now) state.now value) ways.now) }
+        steps: &mut Vec<Listed>,
+    ) -> Result<(), AllocError>
+        ensures { OnOk result (steps.new.items ≡ steps.old.items ++ map (listed_of (net_of self.now) state.now value) (acts (net_of self.now) state.now)) }
     {
-        ways.iter()
-            .map(|way| self.listed(state, way, value))
-            .collect(heap)
+        for unit in 0..self.units {
+            self.add_acts_of(state, unit, value, steps)?;
+        }
+        Ok(())
     }
 }

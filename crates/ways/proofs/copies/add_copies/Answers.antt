@@ -1,9 +1,9 @@
-use Rattle.ways.specs.Copies.{choosing}
-use Rattle.ways.proofs.Copied.{copied_more}
 use Rattle.std.proofs.Common.{◌<◌, length, vec_items, arith}
+use Rattle.ways.specs.Copies.{placing}
+use Rattle.ways.proofs.Copied.{copied_more}
 use Rattle.ways.proofs.copies.add_copies.Goals as goal
 
 pub loop-number-preserved : goal.loop-number-preserved
 loop-number-preserved c =
-    let there : c.loop-number.number < length (vec_items c.args.ways.now) = omega arith in
-    copied_more (choosing c.args.slot c.args.choice) _ _ _ _ c.loop-number.invariant _ _ _ c.loop-number.auto.number there c.index.ensures c.choosing.ensures c.in_ok-push.ensures.items
+    let there : c.loop-number.number < length (vec_items c.args.steps.now) = omega arith in
+    copied_more (placing c.args.slot c.args.unit) _ _ _ _ c.loop-number.invariant _ _ _ c.loop-number.auto.number there c.index.ensures c.placing.ensures c.in_ok-push.ensures.items

@@ -1,15 +1,38 @@
-use Rattle.std.proofs.Common.{◌≡◌, ◌++◌, vec_items, ap, ◌∙◌, arith}
+use Rattle.std.proofs.Common.{◌≡◌, ◌-◌, ◌++◌, ◌∷◌, [], map, drop, vec_items, ap, ◌∙◌, arith, rules, w8, to_z, of_z}
+use Rattle.std.proofs.lemmas.Int.{to_z-of_z}
 use Rattle.std.proofs.lemmas.Result.{IfOk-at_ok}
-use Rattle.ways.specs.Nets.{net_of}
-use Rattle.ways.proofs.Copied.{listed_from, listed_last, listing_more}
+use Rattle.std.specs.List.{flat_map}
+use Rattle.rows.specs.declared.row.Row.{Row}
+use Rattle.ways.specs.Nets.{net_of, unit_at}
+use Rattle.ways.specs.Ways.{choices}
+use Rattle.ways.specs.Landings.{incoming, chosen}
+use Rattle.ways.specs.Copies.{placing}
+use Rattle.ways.proofs.Copied.{listed_from, listed_last, listed_first, listing_more}
 use Rattle.ways.proofs.table.Table.add_combinations.Goals as goal
 
 pub loop-slot-init : goal.loop-slot-init
-loop-slot-init c = c.in_ok-push.ensures.items ∙ ap (λ ws. vec_items c.args.ways.now ++ ws) (listed_last (net_of c.args.self.now) c.args.state.now c.args.sender c.args.row)
+loop-slot-init c =
+    let n = net_of c.args.self.now in
+    let v = to_z w8 (of_z w8 c.args.value) in
+    c.in_ok-push.ensures.items ∙ ap (λ x. vec_items c.args.steps.now ++ x ∷ []) c.listed_alone.ensures ∙ ap (λ ls. vec_items c.args.steps.now ++ ls) (listed_last n c.args.state.now c.args.sender c.args.row v)
 
 pub loop-slot-preserved : goal.loop-slot-preserved
 loop-slot-preserved c =
-    listing_more (net_of c.args.self.now) c.args.state.now c.args.sender c.args.row _ _ c.loop-slot.slot (omega arith) c.loop-slot.auto.slot c.loop-slot.invariant c.len-from.result _ (omega arith) (IfOk-at_ok _ c.in_ok-add_chosen.was c.add_chosen.ensures)
+    let n = net_of c.args.self.now in
+    let s = c.args.state.now in
+    let v = to_z w8 (of_z w8 c.args.value) in
+    let j = c.loop-slot.slot - 1 in
+    let back : to_z w8 (of_z w8 c.incoming-sent.result) ≡ c.incoming-sent.result = search (rules, to_z-of_z) in
+    let sent = back ∙ c.incoming-sent.ensures ∙ ap (λ x. incoming x c.row.result.action v) c.unit_at.ensures ∙ ap (λ (r : Row). incoming (unit_at s c.args.sender) r.action v) c.row.ensures in
+    let added = IfOk-at_ok _ c.in_ok-add_chosen.was c.add_chosen.ensures in
+    listing_more n s c.args.sender c.args.row v _ _ c.loop-slot.slot (omega arith) c.loop-slot.auto.slot c.loop-slot.invariant c.len-from.result _ (omega arith)
+    (added ∙ ap (λ z. vec_items c.loop-slot.steps ++ flat_map (λ x. map (placing j (chosen n (unit_at s j) x z)) (drop c.len-from.result (vec_items c.loop-slot.steps))) (drop 1 (choices n s c.args.sender j))) sent)
 
 pub returns : goal.returns
-returns c = c.loop-slot.invariant ∙ ap (λ m. vec_items c.args.ways.now ++ listed_from (net_of c.args.self.now) c.args.state.now c.args.sender c.args.row m) (let e : c.loop-slot.slot ≡ 0 = omega arith in e)
+returns c =
+    let n = net_of c.args.self.now in
+    let same = to_z-of_z w8 c.args.value c.ranges.value in
+    let was = vec_items c.args.steps.now in
+    let e : c.loop-slot.slot ≡ 0 = omega arith in
+    c.loop-slot.invariant ∙ ap (λ m. was ++ listed_from n c.args.state.now c.args.sender c.args.row (to_z w8 (of_z w8 c.args.value)) m) e
+    ∙ ap (λ z. was ++ listed_from n c.args.state.now c.args.sender c.args.row z 0) same ∙ ap (λ ls. was ++ ls) (listed_first n c.args.state.now c.args.sender c.args.row c.args.value)

@@ -1,0 +1,21 @@
+use Rattle.std.proofs.Common.{◌≡◌, ◌++◌, map, vec_items, ap, ◌∙◌, arith, w8, to_z, of_z}
+use Rattle.std.specs.List.{range_with_len, flat_map}
+use Rattle.std.proofs.lemmas.Int.{to_z-of_z}
+use Rattle.std.proofs.lemmas.Result.{IfOk-at_ok}
+use Rattle.lists.proofs.Adding.{mapping_more}
+use Rattle.ways.specs.Nets.{net_of}
+use Rattle.ways.specs.Ways.{acts_of}
+use Rattle.ways.specs.Landings.{listed_of}
+use Rattle.ways.proofs.table.Table.add_acts.Goals as goal
+
+pub loop-unit-preserved : goal.loop-unit-preserved
+loop-unit-preserved c =
+    let n = net_of c.args.self.now in
+    mapping_more (listed_of n c.args.state.now (to_z w8 (of_z w8 c.args.value))) (acts_of n c.args.state.now) _ _ _ c.loop-unit.invariant _ (IfOk-at_ok _ c.in_ok-add_acts_of.was c.add_acts_of.ensures)
+
+pub returns : goal.returns
+returns c =
+    let n = net_of c.args.self.now in
+    let same = to_z-of_z w8 c.args.value c.ranges.value in
+    let all : c.loop-unit.unit ≡ c.args.self.now.units = omega (arith, c.loop-unit-test.false, c.loop-unit.auto.unit-end) in
+    (rw same at c.loop-unit.invariant) ∙ ap (λ m. vec_items c.args.steps.now ++ map (listed_of n c.args.state.now c.args.value) (flat_map (acts_of n c.args.state.now) (range_with_len 0 m))) all

@@ -1,0 +1,27 @@
+use Rattle.std.proofs.Common.{◌≡◌, ℕ, false, cond, [], ◌++◌, length, map, filter, vec_items, ap, ◌∙◌, arith}
+use Rattle.std.specs.List.{range_with_len}
+use Rattle.lists.proofs.Adding.{sifting_yes, sifting_no}
+use Rattle.ways.specs.declared.receiving.Receiving.{Receiving}
+use Rattle.model.specs.GroupSets.{empty}
+use Rattle.ways.specs.Nets.{net_of, unit_at, free_part}
+use Rattle.ways.specs.Ways.{receivable_at, receivable_rows}
+use Rattle.ways.proofs.table.Table.add_receivings_of.Goals as goal
+use Rattle.ways.proofs.table.Table.add_receivings_of.Goals.{then-is_receivable+in_ok-push, else-is_receivable}
+
+pub loop-row-preserved : goal.loop-row-preserved
+loop-row-preserved c =
+    let p = receivable_at (net_of c.args.self.now) c.args.state.now c.args.unit in
+    let f : ℕ → Receiving = λ k. record { unit = c.args.unit; row = k } in
+    elim c.if-is_receivable.branch [
+      | then-is_receivable+in_ok-push w ↦ ap vec_items w.receivings-is ∙ sifting_yes p f c.loop-row.row _ _ c.loop-row.invariant _ _ c.is_receivable.ensures w.if-is_receivable.true w.in_ok-push.ensures.items
+      | else-is_receivable w ↦ ap vec_items w.receivings-is ∙ sifting_no p f c.loop-row.row _ _ c.loop-row.invariant _ c.is_receivable.ensures w.if-is_receivable.false
+    ]
+
+pub returns : goal.returns
+returns c =
+    let n = net_of c.args.self.now in
+    let rows = receivable_rows n c.args.state.now c.args.unit in
+    let f : ℕ → Receiving = λ k. record { unit = c.args.unit; row = k } in
+    let all : c.loop-row.row ≡ length n.rows = omega (arith, c.len-row-end.ensures, c.loop-row-test.false, c.loop-row.auto.row-end) in
+    let heard : false ≡ empty (free_part n (unit_at c.args.state.now c.args.unit)) = c.if-is_empty.ensures.is ∙ ap empty (c.part_within-heard.ensures.is ∙ ap (free_part n) c.unit_at.ensures) in
+    c.loop-row.invariant ∙ ap (λ m. vec_items c.args.receivings.now ++ map f (filter (receivable_at n c.args.state.now c.args.unit) (range_with_len 0 m))) all ∙ ap (λ b. vec_items c.args.receivings.now ++ cond b [] (map f rows)) heard

@@ -1,8 +1,0 @@
-use Rattle.std.proofs.Common.{◌≡◌, ◌++◌, vec_items}
-use Rattle.std.specs.List.{range_with_len, flat_map}
-use Rattle.ways.specs.Nets.{net_of}
-use Rattle.ways.specs.Ways.{acts_of}
-use Rattle.ways.proofs.table.Table.with_acts.Given as goal
-
-abbrev pub invariant-loop-unit : goal.invariant-loop-unit
-invariant-loop-unit l = vec_items l.all ≡ vec_items l.initial.all ++ flat_map (acts_of (net_of l.self) l.state) (range_with_len 0 l.unit)
