@@ -4,3 +4,4 @@ pub mod Placed
 pub mod Landed
 pub mod Short
 pub mod Admitted
+pub mod Received

@@ -1,12 +1,12 @@
 -- The sets of the units once one of them has moved. Assumes nothing.
-use Rattle.std.proofs.Common.{◌≡◌, ℕ, ◌+◌, ◌<◌, ◌≤◌, Bool, true, false, ◌&&◌, cond, eqb, length, get_or, set, Some, sym, refl, ap, ◌∙◌, arith}
-use Rattle.std.specs.List.{slice_get}
-use Rattle.std.proofs.lemmas.Bool.{eqb-true, eqb-false}
+use Rattle.std.proofs.Common.{◌≡◌, ℕ, ◌+◌, ◌<◌, ◌≤◌, Bool, true, false, ◌&&◌, cond, eqb, List, length, get_or, set, Some, sym, refl, ap, ◌∙◌, arith}
+use Rattle.std.specs.List.{range_with_len, slice_get}
+use Rattle.std.proofs.lemmas.Bool.{eqb-true, eqb-false, and_parts}
 use Rattle.std.proofs.lemmas.Grind.{get_or-set_at}
 use Rattle.std.proofs.lemmas.List.{length-set, length-map, get_or-set_same, get_or-set_other}
 use Rattle.std.proofs.lemmas.List.FromFn.{fill_by_all, get_or-map-range_with_len, length-range_with_len}
 use Rattle.std.proofs.lemmas.Option.{slice_get-get_or}
-use Rattle.lists.specs.Words.{Stands}
+use Rattle.lists.specs.Words.{Stands, every}
 use Rattle.model.specs.Bytes.{zero_unit}
 use Rattle.model.specs.GroupSets.{no_groups}
 use Rattle.model.specs.declared.group_set.GroupSet.{GroupSet}
@@ -14,6 +14,7 @@ use Rattle.model.specs.declared.state.State.{State}
 use Rattle.model.specs.declared.unit_state.UnitState.{UnitState}
 use Rattle.ways.specs.Nets.{Net, unit_at}
 use Rattle.ways.specs.Landings.{moved, on_set, placed}
+use Rattle.network.specs.Meanings.{slot_lawful, lawful}
 
 set_over : (g : GroupSet) (x : UnitState) (b : Bool) → (cond b (on_set x g) x).groups ≡ cond b g x.groups
 set_over g x true = refl
@@ -25,6 +26,10 @@ unmoved false b c e = refl
 unmoved true false c e = refl
 unmoved true true c e = sym e
 
+-- a lawful state's placement is allowed
+pub lawful_allowed : (n : Net) (allowed : List GroupSet → Bool) (s : State) → lawful n allowed s ≡ true → allowed (placed n s) ≡ true
+lawful_allowed n allowed s e = (and_parts (every (slot_lawful n s) (range_with_len 0 6)) (allowed (placed n s)) e).1
+
 same_number : (j : ℕ) → 0 + j ≡ j
 same_number j = omega arith
 
@@ -33,7 +38,7 @@ module _ (n : Net) (s : State) (u : ℕ) (g : GroupSet) where
   set_at_slot j h =
       ap (λ (x : UnitState). x.groups) (get_or-map-range_with_len (λ j. cond (eqb j u) (on_set (unit_at s j) g) (unit_at s j)) 0 6 j j zero_unit h (same_number j)) ∙ set_over g (unit_at s j) (eqb j u)
 
-  units_placed : length (placed n s) ≡ n.units
+  pub units_placed : length (placed n s) ≡ n.units
   units_placed = length-map _ _ ∙ length-range_with_len 0 n.units
 
   set_placed : (j : ℕ) → j < n.units → (b : Bool) → eqb j u ≡ b → get_or (set (placed n s) u g) j no_groups ≡ cond b g (unit_at s j).groups

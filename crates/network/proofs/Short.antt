@@ -1,10 +1,11 @@
 -- How many movements there may be. Assumes nothing.
-use Rattle.std.proofs.Common.{◌≡◌, ℕ, ◌*◌, ◌≤◌, Bool, List, length, filter, ap, ◌∙◌, arith}
-use Rattle.std.specs.List.{range_with_len}
-use Rattle.std.proofs.lemmas.List.{length-map}
+use Rattle.std.proofs.Common.{◌≡◌, ℕ, ◌+◌, ◌*◌, ◌≤◌, Bool, List, length, filter, ap, ◌∙◌, arith}
+use Rattle.std.specs.List.{range_with_len, flat_map}
+use Rattle.std.proofs.lemmas.List.{length-map, length-append}
 use Rattle.std.proofs.lemmas.List.Concat.{length-flat_map}
 use Rattle.std.proofs.lemmas.List.FromFn.{length-range_with_len}
 use Rattle.std.proofs.lemmas.List.Sums.{sum_by-le, length-filter, count_by-le-length}
+use Rattle.lists.proofs.Adding.{joined_push}
 use Rattle.model.specs.declared.group_set.GroupSet.{GroupSet}
 use Rattle.model.specs.declared.state.State.{State}
 use Rattle.ways.specs.declared.way.Way.TheVariants.{Move}
@@ -19,12 +20,18 @@ set_count : length set_numbers ≡ 256
 set_count = ap length numbers_are ∙ length-range_with_len 0 256
 
 module _ (n : Net) (allowed : List GroupSet → Bool) (s : State) where
-  few_of : (u : ℕ) → length (movements_of n allowed s u) ≤ 256
+  pub few_of : (u : ℕ) → length (movements_of n allowed s u) ≤ 256
   few_of u =
       let few = filter_least (λ b. may_move n allowed s u (set_of b)) set_numbers 256 set_count in
       omega (arith, few, length-map (filter (λ b. may_move n allowed s u (set_of b)) set_numbers) (λ b. Move u (set_of b)))
 
+  pub few_joined : (k : ℕ) → length (flat_map (movements_of n allowed s) (range_with_len 0 k)) ≤ k * 256
+  few_joined k =
+      let all = sum_by-le (λ u. length (movements_of n allowed s u)) 256 (range_with_len 0 k) (λ k d h. few_of _) in
+      omega (arith, all, length-flat_map (movements_of n allowed s) (range_with_len 0 k), length-range_with_len 0 k)
+
   pub few_movements : n.units ≤ 6 → length (movements n allowed s) ≤ 6 * 256
-  few_movements few =
-      let all = sum_by-le (λ u. length (movements_of n allowed s u)) 256 (range_with_len 0 n.units) (λ k d h. few_of _) in
-      omega (arith, few, all, length-flat_map (movements_of n allowed s) (range_with_len 0 n.units), length-range_with_len 0 n.units)
+  few_movements few = omega (arith, few, few_joined n.units)
+
+pub joined_length : {Y : Type 0} (f : ℕ → List Y) (k : ℕ) → length (flat_map f (range_with_len 0 (k + 1))) ≡ length (flat_map f (range_with_len 0 k)) + length (f k)
+joined_length f k = ap length (joined_push f k) ∙ length-append (flat_map f (range_with_len 0 k)) (f k)

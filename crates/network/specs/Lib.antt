@@ -1,4 +1,3 @@
 pub mod Meanings
 pub mod Loads
 pub mod Steps
-pub mod Admitted

@@ -1,8 +1,7 @@
 -- From ways to steps, and what a network keeps as a system. Assumes nothing.
-use Rattle.std.specs.Prelude.{◌≡◌, ℕ, ◌+◌, Bool, true, false, cond, List, [], ◌∷◌, ◌++◌, map, length, ℤ, ◌≤ℤ◌, IfOk, Result, refl}
+use Rattle.std.specs.Prelude.{◌≡◌, ℕ, ◌+◌, Bool, true, false, cond, List, [], ◌∷◌, ◌++◌, map, length, ℤ, ◌≤ℤ◌, refl}
 use Rattle.std.proofs.Common.{sym, ap, ◌∙◌}
 use Rattle.std.proofs.lemmas.List.{length-map, length-append}
-use Rattle.std.proofs.lemmas.Result.{IfOk-weaker}
 use Rattle.std.proofs.lemmas.Bool.{true≢false}
 use Rattle.lists.specs.Words.{given, Stands}
 use Rattle.lists.proofs.Mapped.{mapped_from}
@@ -50,17 +49,11 @@ keeps n allowed h =
       steady = λ s i x at e v w _ _. steady_step n s (lawful_ways n allowed s) i x at e v w;
     }
 
--- the ways as they are listed are the steps as they are listed; ws are the ways of the state
-module _ (n : Net) (s : State) (v : ℤ) where
-  abbrev step_listed : Step → Listed
-  step_listed x = record { label = x.label; landing = given (in_range n.lo n.hi v) (x.landing v) }
+-- the ways ws of the state as they are listed at the value v are their steps as they are listed there
+module _ (n : Net) (s : State) where
+  abbrev pub step_listed : ℤ → Step → Listed
+  step_listed v x = record { label = x.label; landing = given (in_range n.lo n.hi v) (x.landing v) }
 
-  listed_steps : (ws : List Way) → map (listed_of n s v) ws ≡ map step_listed (map (step_of n s) ws)
-  listed_steps [] = refl
-  listed_steps (w ∷ ws) = ap (λ ls. listed_of n s v w ∷ ls) (listed_steps ws)
-
-  pub relist : {V E : Type 0} (items : V → List Listed) (r : Result V E) (v' : ℤ) (us vs ws : List Way) → v' ≡ v → us ≡ vs → vs ≡ ws
-      → IfOk r (λ x. items x ≡ map (listed_of n s v') us) → IfOk r (λ x. items x ≡ map step_listed (map (step_of n s) ws))
-  relist items r v' us vs ws same d e m =
-      IfOk-weaker r (λ x. items x ≡ map (listed_of n s v') us) (λ x. items x ≡ map step_listed (map (step_of n s) ws))
-      (λ x h. h ∙ ap (λ y. map (listed_of n s y) us) same ∙ ap (map (listed_of n s v)) (d ∙ e) ∙ listed_steps ws) m
+  pub listed_steps : (v : ℤ) (ws : List Way) → map (listed_of n s v) ws ≡ map (step_listed v) (map (step_of n s) ws)
+  listed_steps v [] = refl
+  listed_steps v (w ∷ ws) = ap (λ ls. listed_of n s v w ∷ ls) (listed_steps v ws)

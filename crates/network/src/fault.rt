@@ -1,8 +1,10 @@
 ghost use Rattle.std.specs.Prelude.{◌≡◌};
 ghost use Rattle.network.specs.Loads.{network_refusal};
 ghost use Rattle.network.specs.declared.fault.NetworkFault.TheVariants.{Rows};
+ghost use Rattle.tables.specs.declared.TableFault.TheVariants.{Memory};
 
 use questions::Refusal;
+use std::alloc::AllocError;
 use std::error::Error;
 use std::fmt;
 use tables::TableFault;
@@ -34,6 +36,14 @@ impl From<TableFault> for NetworkFault {
 
     fn from(e: TableFault) -> NetworkFault {
         NetworkFault::Rows(e)
+    }
+}
+
+impl From<AllocError> for NetworkFault {
+    ghost from_gives = { λ _ r. r ≡ Rows Memory };
+
+    fn from(e: AllocError) -> NetworkFault {
+        NetworkFault::Rows(TableFault::from(e))
     }
 }
 

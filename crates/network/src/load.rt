@@ -5,6 +5,7 @@ ghost use Rattle.network.specs.Meanings.{network_meaning};
 ghost use Rattle.network.specs.Loads.{network_asked, network_refusal, net_in};
 
 use crate::fault::NetworkFault;
+use crate::movement::admitted;
 use crate::network::Network;
 use model::group_set::GroupSet;
 use model::range::Range;
@@ -33,6 +34,8 @@ impl<R: Rule> Network<R> {
             return Err(NetworkFault::Units);
         }
         let program = Program::load(heap, range, rows)?;
+        // Memory comes last, so that its want hides no refusal.
+        let sets = admitted(heap, &rule)?;
         Ok(Network {
             table: Table {
                 free,
@@ -40,6 +43,7 @@ impl<R: Rule> Network<R> {
                 program,
             },
             rule,
+            sets,
         })
     }
 }

@@ -1,40 +1,63 @@
-ghost use Rattle.std.specs.Prelude.{◌≡◌, ◌*◌, ◌≤◌, ◌<◌, ◌++◌, length, IfOk, OnOk};
+ghost use Rattle.std.specs.Prelude.{◌≡◌, ◌*◌, ◌≤◌, ◌<◌, ◌++◌, true, map, length, filter, IfOk, OnOk};
 ghost use Rattle.std.specs.List.{slice_get};
+ghost use Rattle.lists.specs.Words.{through};
 ghost use Rattle.model.specs.Placements.{sets_of};
-ghost use Rattle.ways.specs.Landings.{moved, placed};
+ghost use Rattle.ways.specs.declared.way.Way.TheVariants.{Move};
+ghost use Rattle.ways.specs.Landings.{moved, placed, listed_of};
 ghost use Rattle.ways.specs.Nets.{net_of};
-ghost use Rattle.network.specs.Meanings.{set_numbers, may_move, movements_of, movements};
-ghost use Rattle.network.specs.Admitted.{Covers};
+ghost use Rattle.network.specs.Meanings.{set_of, set_numbers, may_move, movements_of, movements, lawful};
 
 use crate::network::Network;
 use lists::blocks::locate;
 use model::group_set::GroupSet;
 use model::placement::Placement;
 use model::state::State;
+use model::value::Value;
 use rules::rule::Rule;
 use std::alloc::{AllocError, Global};
+use systems::listed::Listed;
 use ways::slots::unit_at;
 use ways::way::Way;
 
+/// The sets that the rule admits, in order.
+pub(crate) fn admitted<R: Rule>(heap: Global, rule: &R) -> Result<Vec<u8>, AllocError>
+    ensures { IfOk result (λ v. v.items ≡ filter (λ b. R.Rule.admitted rule.now (set_of b)) set_numbers) }
+{
+    (0..=u8::MAX)
+        .filter(|&bits| rule.admits(GroupSet { bits }))
+        .collect(heap)
+}
+
+/// The way in which the unit changes to the set with this number, if there is one.
+fn moving(unit: usize, bits: Option<u8>) -> Option<Way>
+    ensures { result ≡ through (λ b. Move unit (set_of b)) bits }
+{
+    let bits = bits?;
+    Some(Way::Move {
+        unit,
+        set: GroupSet { bits },
+    })
+}
+
+// A lawful state's placement is allowed, so the rule is asked of the change alone. Only the sets that it admits are tried:
+// no unit of the network may be on another one.
 impl<R: Rule> Network<R> {
     /// Whether the rule allows the placement, which is that of the state, with the unit on the set.
     fn allows_with(&self, state: &State, placement: &Placement, unit: usize, set: GroupSet) -> bool
-        requires { sets_of placement.now ≡ placed (net_of self.now.table) state.now }
-        ensures { result ≡ R.Rule.allowed self.now.rule (placed (net_of self.now.table) (moved state.now unit set)) }
+        requires placed { sets_of placement.now ≡ placed (net_of self.now.table) state.now }
+        requires lawful { lawful (net_of self.now.table) (R.Rule.allowed self.now.rule) state.now ≡ true }
+        ensures { unit < self.now.table.units → result ≡ R.Rule.allowed self.now.rule (placed (net_of self.now.table) (moved state.now unit set)) }
     {
-        self.rule.allows(&placement.with(unit, set))
+        self.rule.allows_change(placement, unit, set)
     }
 
     /// Whether the unit can change to the set: another one with the same free part, in a placement that is allowed. The
     /// placement is that of the state.
-    // A no to the set alone spares the rest. A unit past the last is in no placement, so its set is not asked about.
     fn may_move(&self, state: &State, placement: &Placement, unit: usize, set: GroupSet) -> bool
-        requires { sets_of placement.now ≡ placed (net_of self.now.table) state.now }
-        ensures { result ≡ may_move (net_of self.now.table) (R.Rule.allowed self.now.rule) state.now unit set }
+        requires placed { sets_of placement.now ≡ placed (net_of self.now.table) state.now }
+        requires lawful { lawful (net_of self.now.table) (R.Rule.allowed self.now.rule) state.now ≡ true }
+        ensures { unit < self.now.table.units → result ≡ may_move (net_of self.now.table) (R.Rule.allowed self.now.rule) state.now unit set }
     {
-        if unit < self.table.units && !self.rule.admits(set) {
-            return false;
-        }
         let old = unit_at(state, unit).groups;
         let free = self.table.free;
         set != old
@@ -44,12 +67,13 @@ impl<R: Rule> Network<R> {
 
     // The filter stands here and below, since no function can hand out an iterator that it does not name.
     fn movement_count_of(&self, state: &State, placement: &Placement, unit: usize) -> usize
-        requires { sets_of placement.now ≡ placed (net_of self.now.table) state.now }
-        ensures is { result ≡ length (movements_of (net_of self.now.table) (R.Rule.allowed self.now.rule) state.now unit) }
-        ensures few { result ≤ 256 }
+        requires placed { sets_of placement.now ≡ placed (net_of self.now.table) state.now }
+        requires lawful { lawful (net_of self.now.table) (R.Rule.allowed self.now.rule) state.now ≡ true }
+        ensures { unit < self.now.table.units → result ≡ length (movements_of (net_of self.now.table) (R.Rule.allowed self.now.rule) state.now unit) }
     {
-        (0..=u8::MAX)
-            .filter(|&bits| self.may_move(state, placement, unit, GroupSet { bits }))
+        self.sets
+            .iter()
+            .filter(|&&bits| self.may_move(state, placement, unit, GroupSet { bits }))
             .count()
     }
 
@@ -60,29 +84,36 @@ impl<R: Rule> Network<R> {
         unit: usize,
         number: usize,
     ) -> Option<Way>
-        requires { sets_of placement.now ≡ placed (net_of self.now.table) state.now }
+        requires placed { sets_of placement.now ≡ placed (net_of self.now.table) state.now }
+        requires lawful { lawful (net_of self.now.table) (R.Rule.allowed self.now.rule) state.now ≡ true }
+        requires unit { unit < self.now.table.units }
         ensures { result ≡ slice_get (movements_of (net_of self.now.table) (R.Rule.allowed self.now.rule) state.now unit) number }
     {
-        (0..=u8::MAX)
-            .filter(|&bits| self.may_move(state, placement, unit, GroupSet { bits }))
-            .map(|bits| Way::Move {
-                unit,
-                set: GroupSet { bits },
-            })
+        let bits = self
+            .sets
+            .iter()
+            .filter(|&&bits| self.may_move(state, placement, unit, GroupSet { bits }))
             .nth(number)
+            .copied();
+        moving(unit, bits)
     }
 
+    // A loop, in which a unit is known to be one of the network's.
     pub(crate) fn movement_count(&self, state: &State) -> usize
+        requires { lawful (net_of self.now.table) (R.Rule.allowed self.now.rule) state.now ≡ true }
         ensures is { result ≡ length (movements (net_of self.now.table) (R.Rule.allowed self.now.rule) state.now) }
         ensures few { result ≤ 6 * 256 }
     {
         let placement = self.table.placement(state);
-        (0..self.table.units)
-            .map(|unit| self.movement_count_of(state, &placement, unit))
-            .sum()
+        let mut count = 0;
+        for unit in 0..self.table.units {
+            count += self.movement_count_of(state, &placement, unit);
+        }
+        count
     }
 
     pub(crate) fn movement(&self, state: &State, number: usize) -> Option<Way>
+        requires { lawful (net_of self.now.table) (R.Rule.allowed self.now.rule) state.now ≡ true }
         ensures { result ≡ slice_get (movements (net_of self.now.table) (R.Rule.allowed self.now.rule) state.now) number }
     {
         let units = self.table.units;
@@ -95,55 +126,42 @@ impl<R: Rule> Network<R> {
         self.movement_of(state, &placement, unit, left)
     }
 
-    /// The sets that the rule admits, in order, so that the others are asked about once for all units.
-    fn admitted(&self, heap: Global) -> Result<Vec<u8>, AllocError>
-        ensures { IfOk result (λ v. Covers (R.Rule.allowed self.now.rule) v.items set_numbers) }
-    {
-        let mut sets = Vec::new(heap);
-        for bits in 0..=u8::MAX {
-            if self.rule.admits(GroupSet { bits }) {
-                sets.push(bits)?;
-            }
-        }
-        Ok(sets)
-    }
-
-    // A loop, since each push may want memory.
+    // Loops, since each push may want memory.
     fn add_movements_of(
         &self,
         state: &State,
         placement: &Placement,
-        sets: &[u8],
         unit: usize,
-        ways: &mut Vec<Way>,
+        value: Value,
+        steps: &mut Vec<Listed>,
     ) -> Result<(), AllocError>
         requires placed { sets_of placement.now ≡ placed (net_of self.now.table) state.now }
-        requires covers { Covers (R.Rule.allowed self.now.rule) sets.now set_numbers }
+        requires lawful { lawful (net_of self.now.table) (R.Rule.allowed self.now.rule) state.now ≡ true }
         requires unit { unit < self.now.table.units }
-        ensures { OnOk result (ways.new.items ≡ ways.old.items ++ movements_of (net_of self.now.table) (R.Rule.allowed self.now.rule) state.now unit) }
+        ensures { OnOk result (steps.new.items ≡ steps.old.items ++ map (listed_of (net_of self.now.table) state.now value) (movements_of (net_of self.now.table) (R.Rule.allowed self.now.rule) state.now unit)) }
     {
-        for &bits in sets {
+        for &bits in &self.sets {
             let set = GroupSet { bits };
             if self.may_move(state, placement, unit, set) {
-                ways.push(Way::Move { unit, set })?;
+                steps.push(self.table.listed_movement(state, unit, set, value))?;
             }
         }
         Ok(())
     }
 
-    /// Adds the movements, asking the rule at most once for each set of each unit.
+    /// Adds the movements, as they are listed at the value.
     pub(crate) fn add_movements(
         &self,
-        heap: Global,
         state: &State,
-        ways: &mut Vec<Way>,
+        value: Value,
+        steps: &mut Vec<Listed>,
     ) -> Result<(), AllocError>
-        ensures { OnOk result (ways.new.items ≡ ways.old.items ++ movements (net_of self.now.table) (R.Rule.allowed self.now.rule) state.now) }
+        requires { lawful (net_of self.now.table) (R.Rule.allowed self.now.rule) state.now ≡ true }
+        ensures { OnOk result (steps.new.items ≡ steps.old.items ++ map (listed_of (net_of self.now.table) state.now value) (movements (net_of self.now.table) (R.Rule.allowed self.now.rule) state.now)) }
     {
         let placement = self.table.placement(state);
-        let sets = self.admitted(heap)?;
         for unit in 0..self.table.units {
-            self.add_movements_of(state, &placement, &sets, unit, ways)?;
+            self.add_movements_of(state, &placement, unit, value, steps)?;
         }
         Ok(())
     }

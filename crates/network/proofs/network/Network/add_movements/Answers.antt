@@ -1,13 +1,21 @@
-use Rattle.std.proofs.Common.{sym, subst}
+use Rattle.std.proofs.Common.{◌≡◌, ◌++◌, map, vec_items, ap, ◌∙◌, arith, w8, to_z, of_z}
+use Rattle.std.specs.List.{range_with_len, flat_map}
+use Rattle.std.proofs.lemmas.Int.{to_z-of_z}
 use Rattle.std.proofs.lemmas.Result.{IfOk-at_ok}
-use Rattle.lists.proofs.Adding.{adding_more}
+use Rattle.lists.proofs.Adding.{mapping_more}
 use Rattle.ways.specs.Nets.{net_of}
-use Rattle.network.specs.Admitted.{Covers}
-use Rattle.network.specs.Meanings.{set_numbers, movements_of}
+use Rattle.ways.specs.Landings.{listed_of}
+use Rattle.network.specs.Meanings.{movements_of}
 use Rattle.network.proofs.network.Network.add_movements.Goals as goal
 
 pub loop-unit-preserved : goal.loop-unit-preserved
-loop-unit-preserved g c = adding_more (movements_of (net_of c.args.self.now.table) (g.R.Rule.allowed c.args.self.now.rule) c.args.state.now) _ _ _ c.loop-unit.invariant _ (IfOk-at_ok _ c.in_ok-add_movements_of.was c.add_movements_of.ensures)
+loop-unit-preserved g c =
+    let n = net_of c.args.self.now.table in
+    mapping_more (listed_of n c.args.state.now (to_z w8 (of_z w8 c.args.value))) (movements_of n (g.R.Rule.allowed c.args.self.now.rule) c.args.state.now) _ _ _ c.loop-unit.invariant _ (IfOk-at_ok _ c.in_ok-add_movements_of.was c.add_movements_of.ensures)
 
-pub add_movements_of-requires-clause-covers : goal.add_movements_of-requires-clause-covers
-add_movements_of-requires-clause-covers g c = subst (λ xs. Covers (g.R.Rule.allowed c.args.self.now.rule) xs set_numbers) (sym c.deref.ensures.value) c.in_ok-sets.ensures
+pub returns : goal.returns
+returns g c =
+    let n = net_of c.args.self.now.table in
+    let same = to_z-of_z w8 c.args.value c.ranges.value in
+    let all : c.loop-unit.unit ≡ c.args.self.now.table.units = omega (arith, c.loop-unit-test.false, c.loop-unit.auto.unit-end) in
+    (rw same at c.loop-unit.invariant) ∙ ap (λ m. vec_items c.args.steps.now ++ map (listed_of n c.args.state.now c.args.value) (flat_map (movements_of n (g.R.Rule.allowed c.args.self.now.rule) c.args.state.now) (range_with_len 0 m))) all

@@ -1,8 +1,10 @@
-use Rattle.std.proofs.Common.{◌≡◌, ◌++◌, vec_items}
+use Rattle.std.proofs.Common.{◌≡◌, ◌++◌, map, vec_items}
 use Rattle.std.specs.List.{range_with_len, flat_map}
 use Rattle.ways.specs.Nets.{net_of}
+use Rattle.ways.specs.Landings.{listed_of}
 use Rattle.network.specs.Meanings.{movements_of}
 use Rattle.network.proofs.network.Network.add_movements.Given as goal
 
 abbrev pub invariant-loop-unit : goal.invariant-loop-unit
-invariant-loop-unit g l = vec_items l.ways ≡ vec_items l.initial.ways ++ flat_map (movements_of (net_of l.self.table) (g.R.Rule.allowed l.self.rule) l.state) (range_with_len 0 l.unit)
+invariant-loop-unit g l =
+    vec_items l.steps ≡ vec_items l.fn.steps ++ map (listed_of (net_of l.self.table) l.state l.value) (flat_map (movements_of (net_of l.self.table) (g.R.Rule.allowed l.self.rule) l.state) (range_with_len 0 l.unit))

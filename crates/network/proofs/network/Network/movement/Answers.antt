@@ -4,6 +4,11 @@ use Rattle.ways.specs.Nets.{net_of}
 use Rattle.network.specs.Meanings.{movements_of}
 use Rattle.network.proofs.network.Network.movement.Goals as goal
 
+pub movement_of-requires-clause-unit : goal.movement_of-requires-clause-unit
+movement_of-requires-clause-unit g c =
+    let f = movements_of (net_of c.args.self.now.table) (g.R.Rule.allowed c.args.self.now.rule) c.args.state.now in
+    (c.in_ok-unit.ensures (λ k. length (f k)) (λ k r h q. search rules)).0
+
 pub returns-in_err-unit : goal.returns-in_err-unit
 returns-in_err-unit g c =
     let f = movements_of (net_of c.args.self.now.table) (g.R.Rule.allowed c.args.self.now.rule) c.args.state.now in

@@ -1,24 +1,33 @@
-use Rattle.std.proofs.Common.{◌+◌, ◌*◌, length, sym, ◌∙◌, arith, rules, tests}
-use Rattle.std.specs.List.{range_with_len}
-use Rattle.std.proofs.lemmas.List.Concat.{length-flat_map}
-use Rattle.std.proofs.lemmas.Iterator.{YieldsList-from_range, YieldsList-from_map}
-use Rattle.std.proofs.lemmas.Iterator.Consumers.{sum_by_from_yields_List}
+use Rattle.std.proofs.Common.{◌≡◌, length, ap, ◌∙◌, arith}
+use Rattle.std.specs.List.{range_with_len, flat_map}
 use Rattle.ways.specs.Nets.{net_of}
 use Rattle.network.specs.Meanings.{movements_of}
-use Rattle.ways.proofs.Summed.{sum_below}
+use Rattle.network.proofs.Short.{few_of, joined_length, few_joined}
 use Rattle.network.proofs.network.Network.movement_count.Goals as goal
 
-pub sum-requires-clause-fits : goal.sum-requires-clause-fits
-sum-requires-clause-fits g c = sum_below _ _ c.args.self.now.table.units 6 (omega arith) (cc) c.map.ensures.closure _ (omega arith) (λ x r q k. search (rules, tests))
+pub loop-unit-preserved : goal.loop-unit-preserved
+loop-unit-preserved g c =
+    let f = movements_of (net_of c.args.self.now.table) (g.R.Rule.allowed c.args.self.now.rule) c.args.state.now in
+    let one = c.movement_count_of-count.ensures c.loop-unit-test.true in
+    let all = joined_length f c.loop-unit.unit in
+    omega (arith, c.loop-unit.invariant, one, all)
+
+pub overflow_add-count : goal.overflow_add-count
+overflow_add-count g c =
+    let n = net_of c.args.self.now.table in
+    let allowed = g.R.Rule.allowed c.args.self.now.rule in
+    let one = c.movement_count_of-count.ensures c.loop-unit-test.true in
+    let few = few_of n allowed c.args.state.now c.loop-unit.unit in
+    let all = few_joined n allowed c.args.state.now c.loop-unit.unit in
+    omega (arith, c.loop-unit.invariant, one, few, all, c.loop-unit-test.true, c.args.self.now.table.most)
 
 pub returns-clause-few : goal.returns-clause-few
 returns-clause-few g c =
-    let w = c.sum.ensures.runs tt in
-    let below = sum_below _ _ c.args.self.now.table.units 6 (omega arith) (cc) c.map.ensures.closure (6 * 256 + 1) (omega arith) (λ x r q k. search (rules, tests)) w.0 w.0.seen w.1 in
-    omega (arith, below, w.3)
+    let all = few_joined (net_of c.args.self.now.table) (g.R.Rule.allowed c.args.self.now.rule) c.args.state.now c.loop-unit.unit in
+    omega (arith, c.loop-unit.invariant, all, c.loop-unit.auto.unit-end, c.args.self.now.table.most)
 
 pub returns-clause-is : goal.returns-clause-is
 returns-clause-is g c =
     let f = movements_of (net_of c.args.self.now.table) (g.R.Rule.allowed c.args.self.now.rule) c.args.state.now in
-    sum_by_from_yields_List (λ k. length (f k)) (range_with_len 0 c.args.self.now.table.units) _ _ c.sum.ensures.ran (YieldsList-from_map _ _ (YieldsList-from_range 0 c.args.self.now.table.units c.args.self.now.table.units (cc) (search rules)) c.map.ensures.closure (λ x r q k. search rules))
-    ∙ sym (length-flat_map f (range_with_len 0 c.args.self.now.table.units))
+    let all : c.loop-unit.unit ≡ c.args.self.now.table.units = omega (arith, c.loop-unit-test.false, c.loop-unit.auto.unit-end) in
+    c.loop-unit.invariant ∙ ap (λ m. length (flat_map f (range_with_len 0 m))) all
