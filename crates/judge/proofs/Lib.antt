@@ -5,6 +5,6 @@ pub mod Replying
 pub mod Tested
 pub mod Exactly
 pub mod Listed
-pub mod Bytes
+pub mod Receiving
 pub mod Seen
-pub mod Landed
+pub mod Matched

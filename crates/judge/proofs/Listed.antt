@@ -1,8 +1,8 @@
 -- What the held lists of a pair's steps tell of replies. Assumes nothing.
-use Rattle.std.proofs.Common.{◌≡◌, ℕ, ◌<◌, Bool, true, false, cond, List, length, ℤ, is_some, Some, None, Option, Decides, sym, refl, ap, ◌∙◌}
+use Rattle.std.proofs.Common.{◌≡◌, ℕ, ◌<◌, Bool, true, false, cond, length, ℤ, is_some, Some, None, Option, Decides, sym, refl, ap, ◌∙◌}
 use Rattle.std.specs.List.{slice_get}
 use Rattle.std.proofs.lemmas.Bool.Decides.{Decides-like}
-use Rattle.lists.specs.Words.{through, given, Stands, FirstOf}
+use Rattle.lists.specs.Words.{through, Stands, FirstOf}
 use Rattle.lists.proofs.Places.{nth_within, some_none, some_same}
 use Rattle.lists.proofs.Listed.{nth_map_some}
 use Rattle.questions.specs.Asking.{first_no}
@@ -13,6 +13,7 @@ use Rattle.model.specs.declared.state.State.{State}
 use Rattle.systems.specs.declared.listed.Listed.{Listed}
 use Rattle.systems.specs.Meaning.{Step, Keeps, in_range_of, receives}
 use Rattle.systems.specs.Listing.{listed_at}
+use Rattle.systems.proofs.Facts.{given_cond}
 use Rattle.systems.proofs.Ways.{map_stands}
 use Rattle.judge.specs.Comparing.{Compared, OneRange, opposed, pair_from, system_on, steps_on, label_on, landing_on, listing_on}
 use Rattle.judge.specs.Likeness.{Holds, Reply, Answered}
@@ -20,10 +21,6 @@ use Rattle.judge.specs.Judged.{steps_asked}
 use Rattle.judge.proofs.Exactly.{first_unanswered}
 use Rattle.judge.proofs.Finding.{decides_first}
 use Rattle.judge.proofs.Replying.{reply_one}
-
-given_cond : {X : Type 0} (b : Bool) (x : X) → cond b (Some x) None ≡ given b x
-given_cond true x = refl
-given_cond false x = refl
 
 -- a step of the list at the value u
 module _ (c : Compared) (side : Side) (p : Pair) (u : ℤ) (i : ℕ) (y : Listed) (at : Stands (listing_on side c p u) y i) where
@@ -39,13 +36,8 @@ module _ (c : Compared) (side : Side) (p : Pair) (u : ℤ) (i : ℕ) (y : Listed
       ∙ given_cond (in_range_of (system_on side c) u) (listed_step.0.landing u)
       ∙ ap (λ (z : Listed). z.landing) (sym listed_step.2)
 
--- what is not listed, or has another label, is no reply
+-- what is not listed has no reply, and what has another label is none
 module _ (c : Compared) (side opp : Side) (p : Pair) (i j : ℕ) (u : ℤ) (o : opp ≡ opposed side) where
-  pub unlisted : None ≡ slice_get (listing_on opp c p u) j → Reply c side p i j → ⊥
-  unlisted none r =
-      some_none _ _ (nth_map_some (listed_at (system_on (opposed side) c) u) (steps_on (opposed side) c p) j r.given r.given_at)
-      (ap (λ s. slice_get (listing_on s c p u) j) (sym o) ∙ sym none)
-
   pub unlisted_own : slice_get (listing_on side c p u) i ≡ None → Answered c side p i → ⊥
   unlisted_own none a = some_none _ _ (nth_map_some (listed_at (system_on side c) u) (steps_on side c p) i a.1.asked a.1.asked_at) none
 
@@ -85,8 +77,3 @@ module _ (c : Compared) (one : OneRange c) (side : Side) (p : Pair) (m : ℕ) wh
 
   pub first_unmet : (r : Option ℕ) → m ≡ length (steps_on side c p) → FirstOf (λ i. (i < m) × (Answered c side p i → ⊥)) r → r ≡ first_no (steps_asked c side p)
   first_unmet r whole h = first_unanswered c one side p (length (steps_on (opposed side) c p)) refl m r whole (unmet r h)
-
--- the record with a number is the pair of two landings
-pub landings_held : (rel : List Pair) (side : Side) (k : ℕ) (held p : Pair) (a b : State) (x y : Option State) → Some held ≡ slice_get rel k → held ≡ p → p ≡ pair_from side a b → x ≡ Some a → y ≡ Some b
-    → (a : State) × (b : State) × (x ≡ Some a) × (y ≡ Some b) × Holds rel (pair_from side a b)
-landings_held rel side k held p a b x y at same pair own other = (a, b, own, other, (k, sym at ∙ ap Some (same ∙ pair)))

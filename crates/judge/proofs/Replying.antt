@@ -1,10 +1,10 @@
 -- What landings tell of replies. Assumes nothing.
-use Rattle.std.proofs.Common.{◌≡◌, ℕ, Bool, true, false, cond, List, ℤ, is_some, Some, None, Option, Decides, sym, refl, ap, ◌∙◌, subst, arith}
+use Rattle.std.proofs.Common.{◌≡◌, ℕ, Bool, true, false, cond, ℤ, is_some, Some, None, IfSome, Option, Decides, sym, refl, ap, ◌∙◌, subst, arith}
 use Rattle.std.specs.List.{slice_get}
 use Rattle.std.proofs.lemmas.Int.{ints}
 use Rattle.std.proofs.lemmas.Bool.Decides.{Decides-like}
 use Rattle.lists.specs.Words.{through, Stands, FirstOf}
-use Rattle.lists.proofs.Places.{some_same, some_none}
+use Rattle.lists.proofs.Places.{some_same}
 use Rattle.questions.specs.declared.Side.{Side}
 use Rattle.questions.specs.declared.Side.TheVariants.{Left, Right}
 use Rattle.model.specs.declared.label.Label.{Label}
@@ -14,7 +14,7 @@ use Rattle.model.specs.Ranges.{in_range}
 use Rattle.systems.specs.Meaning.{Meaning, Step, Keeps, in_range_of, receives, landing_at}
 use Rattle.systems.proofs.Facts.{label_some}
 use Rattle.judge.specs.Comparing.{Compared, OneRange, opposed, pair_from, system_on, state_on, steps_on, label_on, landing_on}
-use Rattle.judge.specs.Likeness.{Holds, FormAt, LandsAt, Lands, Reply}
+use Rattle.judge.specs.Likeness.{Holds, LandsAt, Lands, Reply}
 use Rattle.judge.proofs.Values.{in_range_lem}
 use Rattle.judge.proofs.Finding.{decides_first}
 
@@ -66,30 +66,28 @@ module _ (c : Compared) (one : OneRange c) where
         (λ l. record { one_range = one; asked = x; given = y; asked_at = x-at; given_at = y-at; one_label = same; lands = l })
         (λ r. subst (λ (z : Step). Lands c side x z) (some_same _ _ _ r.given_at y-at) (subst (λ (z : Step). Lands c side z r.given) (some_same _ _ _ r.asked_at x-at) r.lands)) d
 
--- whether two states form a record of the relation
-module _ (rel : List Pair) (side : Side) (f g : ℤ → Option State) (v : ℤ) where
-  pub formed : (own other : State) (q : Pair) (b : Bool) → Some own ≡ f v → Some other ≡ g v → q ≡ pair_from side own other → Decides b (Holds rel q) → Decides b (FormAt rel side f g v)
-  formed own other q b own-at other-at pair d =
-      Decides-like b
-      (λ h. record { own = own; other = other; own_at = sym own-at; other_at = sym other-at; held = subst (λ (x : Pair). Holds rel x) pair h })
-      (λ l. subst (λ (x : Pair). Holds rel x)
-      (ap (λ s. pair_from side s l.other) (some_same _ _ _ l.own_at (sym own-at)) ∙ ap (λ s. pair_from side own s) (some_same _ _ _ l.other_at (sym other-at)) ∙ sym pair)
-      l.held)
-      d
-
-  -- where one of them is wanting
-  pub no_own : None ≡ f v → FormAt rel side f g v → ⊥
-  no_own none l = some_none _ _ l.own_at (sym none)
-
-  pub no_other : None ≡ g v → FormAt rel side f g v → ⊥
-  no_other none l = some_none _ _ l.other_at (sym none)
-
--- the same of the landings of two steps; `opp` is the opposite side as the code has it
+-- whether the landings of two steps form a record of the relation; `opp` is the opposite side as the code has it
 pub decides_lands : (c : Compared) (side opp : Side) (p : Pair) (i j : ℕ) (v : ℤ) (own other : State) (q : Pair) (r : Option ℕ) (b : Bool) → opp ≡ opposed side
     → Some own ≡ landing_on side c p i v → Some other ≡ landing_on opp c p j v → q ≡ pair_from side own other
     → FirstOf (Stands c.relation q) r → b ≡ is_some r → Decides b (LandsAt c side p i j v)
 decides_lands c side opp p i j v own other q r b o own-at other-at pair first is =
-    formed c.relation side (landing_on side c p i) (landing_on (opposed side) c p j) v own other q b own-at (other-at ∙ ap (λ s. landing_on s c p j v) o) pair (decides_first (Stands c.relation q) r b first is)
+    let there : Some other ≡ landing_on (opposed side) c p j v = other-at ∙ ap (λ s. landing_on s c p j v) o in
+    Decides-like b
+    (λ h. record { own = own; other = other; own_at = sym own-at; other_at = sym there; held = subst (λ (x : Pair). Holds c.relation x) pair h })
+    (λ l. subst (λ (x : Pair). Holds c.relation x)
+    (ap (λ s. pair_from side s l.other) (some_same _ _ _ l.own_at (sym own-at)) ∙ ap (λ s. pair_from side own s) (some_same _ _ _ l.other_at (sym there)) ∙ sym pair)
+    l.held)
+    (decides_first (Stands c.relation q) r b first is)
+
+-- the landings of the left step i and the right step j, told from the right side
+pub turned : (c : Compared) (p : Pair) (i j : ℕ) (r : Option Bool) → IfSome r (λ b. Decides b ((v : ℤ) → in_range_of c.left v ≡ true → LandsAt c Left p i j v))
+    → IfSome r (λ b. Decides b ((v : ℤ) → in_range_of c.left v ≡ true → LandsAt c Right p j i v))
+turned c p i j None h = h
+turned c p i j (Some b) h =
+    Decides-like b
+    (λ all v w. let l = all v w in record { own = l.other; other = l.own; own_at = l.other_at; other_at = l.own_at; held = l.held })
+    (λ all v w. let l = all v w in record { own = l.other; other = l.own; own_at = l.other_at; other_at = l.own_at; held = l.held })
+    h
 
 keeps_on : (c : Compared) → Keeps c.left → Keeps c.right → (side : Side) → Keeps (system_on side c)
 keeps_on c l r Left = l

@@ -35,11 +35,11 @@ pair_again : (side : Side) (q : Pair) → pair_from side (state_on side q) (stat
 pair_again Left q = refl
 pair_again Right q = refl
 
-own_state : (side : Side) (a b : State) → state_on side (pair_from side a b) ≡ a
+pub own_state : (side : Side) (a b : State) → state_on side (pair_from side a b) ≡ a
 own_state Left a b = refl
 own_state Right a b = refl
 
-other_state : (side : Side) (a b : State) → state_on (opposed side) (pair_from side a b) ≡ b
+pub other_state : (side : Side) (a b : State) → state_on (opposed side) (pair_from side a b) ≡ b
 other_state Left a b = refl
 other_state Right a b = refl
 

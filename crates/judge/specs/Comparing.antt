@@ -6,7 +6,7 @@ use Rattle.model.specs.declared.label.Label.{Label}
 use Rattle.model.specs.declared.state.Pair.{Pair}
 use Rattle.model.specs.declared.state.State.{State}
 use Rattle.systems.specs.declared.listed.Listed.{Listed}
-use Rattle.systems.specs.Listing.{listing, landings}
+use Rattle.systems.specs.Listing.{listing}
 use Rattle.systems.specs.Meaning.{Meaning, Step, label_at, landing_at}
 use Rattle.judge.specs.declared.comparison.Comparison.{Comparison}
 
@@ -57,7 +57,3 @@ landing_on side c p i v = landing_at (system_on side c) (state_on side p) i v
 -- the steps of the pair's state on a side as they are listed at the value v
 abbrev pub listing_on : Side → Compared → Pair → ℤ → List Listed
 listing_on side c p v = listing (system_on side c) (state_on side p) v
-
--- the landings of one of them, by the value's byte
-abbrev pub landings_on : Side → Compared → Pair → ℕ → List (Option State)
-landings_on side c p i = landings (system_on side c) (state_on side p) i

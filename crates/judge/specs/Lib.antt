@@ -2,4 +2,5 @@ pub mod Comparing
 pub mod Likeness
 pub mod Replies
 pub mod Judged
-pub mod Landed
+pub mod Receiving
+pub mod Matching

@@ -1,10 +1,7 @@
 -- Replies and late strong bisimulations.
-use Rattle.std.specs.Prelude.{◌≡◌, ℕ, ◌<◌, ◌≤◌, true, List, length, ℤ, Some, None, Option}
-use Rattle.std.specs.List.{slice_get}
-use Rattle.std.specs.Option.{unwrap_or}
+use Rattle.std.specs.Prelude.{◌≡◌, ℕ, ◌<◌, ◌≤◌, true, List, length, ℤ, Some}
 use Rattle.lists.specs.Words.{Stands}
 use Rattle.questions.specs.declared.Side.{Side}
-use Rattle.model.specs.Values.{byte_of}
 use Rattle.model.specs.declared.state.Pair.{Pair}
 use Rattle.model.specs.declared.state.State.{State}
 use Rattle.systems.specs.Meaning.{Step, in_range_of}
@@ -47,21 +44,13 @@ pub record Bisimulation (c : Compared) : Type 0 where
   pub few : length c.relation ≤ 4096
   pub each : (k : ℕ) (p : Pair) → Stands c.relation p k → Matched c p
 
--- f and g both tell a state at the value v, and these states form a record of the relation, that of f on the side
-pub record FormAt (rel : List Pair) (side : Side) (f g : ℤ → Option State) (v : ℤ) : Type 0 where
+-- by step number: the steps i and j both land at the value v, and their landings form a record of the relation
+pub record LandsAt (c : Compared) (side : Side) (p : Pair) (i j : ℕ) (v : ℤ) : Type 0 where
   pub own : State
   pub other : State
-  pub own_at : f v ≡ Some own
-  pub other_at : g v ≡ Some other
-  pub held : Holds rel (pair_from side own other)
-
--- what a list by the value's byte tells at the value v
-abbrev pub in_bytes : List (Option State) → ℤ → Option State
-in_bytes xs v = unwrap_or (slice_get xs (byte_of v)) None
-
--- by step number: the steps i and j both land at the value v, and their landings form a record of the relation
-abbrev pub LandsAt : Compared → Side → Pair → ℕ → ℕ → ℤ → Type 0
-LandsAt c side p i j v = FormAt c.relation side (landing_on side c p i) (landing_on (opposed side) c p j) v
+  pub own_at : landing_on side c p i v ≡ Some own
+  pub other_at : landing_on (opposed side) c p j v ≡ Some other
+  pub held : Holds c.relation (pair_from side own other)
 
 -- by record number: the record k holds the landing of the step y, as it is listed at the value u, and a step of the opposite
 -- list with the label of y lands on the record's other state

@@ -1,15 +1,14 @@
-ghost use Rattle.std.specs.Prelude.{◌≡◌, ℕ, ◌<◌, true, false, IfSome, Some, Decides};
+ghost use Rattle.std.specs.Prelude.{◌≡◌, ℕ, ℤ, true, false, IfSome, Some, Decides};
 ghost use Rattle.lists.specs.Words.{Stands};
 ghost use Rattle.model.specs.declared.state.State.{State};
-ghost use Rattle.systems.specs.Meaning.{receives};
-ghost use Rattle.judge.specs.Comparing.{meant, opposed, pair_from, listing_on, landings_on};
-ghost use Rattle.judge.specs.Likeness.{Holds, Reply, Answered, SeenAt};
+ghost use Rattle.systems.specs.Meaning.{receives, in_range_of};
+ghost use Rattle.judge.specs.Comparing.{meant, opposed, pair_from, listing_on};
+ghost use Rattle.judge.specs.Likeness.{Holds, LandsAt, Reply, Answered, SeenAt};
 
-use crate::comparison::{opposite, pair_from};
+use crate::comparison::opposite;
 use crate::held::{Held, nth};
-use crate::index::{is_pair, state_on};
+use crate::index::{is_state, state_on};
 use crate::numbers::{state_fingerprint, step_fingerprint};
-use crate::received::Received;
 use crate::reply::is_receive;
 use lookup::Exact;
 use model::state::{Pair, State};
@@ -23,8 +22,8 @@ pub(crate) struct HeldStep<'a, L: System, R: System> {
     pub(crate) held: &'a Held<'a, L, R>,
     pub(crate) side: Side,
     pub(crate) step: usize,
-    pub(crate) listed: Listed,
-    ghost at: { Stands (listing_on side (meant L.System.means R.System.means held.now.between.now.comparison.now) held.now.pair.now held.now.lowest) listed step },
+    pub(crate) listed: &'a Listed,
+    ghost at: { Stands (listing_on side (meant L.System.means R.System.means held.now.between.now.comparison.now) held.now.pair.now held.now.lowest) listed.now step },
 }
 
 fn is_equal<T: Exact>(one: &T, other: &T) -> bool
@@ -44,13 +43,19 @@ fn are_alike(own: &Listed, other: &Listed) -> bool
 fn are_landings(relation: &[Pair], side: Side, own: &Listed, other: &Listed, place: usize) -> bool
     ensures { result ≡ true → (a : State) × (b : State) × (own.now.landing ≡ Some a) × (other.now.landing ≡ Some b) × Holds relation.now (pair_from side a b) }
 {
-    match (own.landing, other.landing, nth(relation, place)) {
-        (Some(own), Some(other), Some(held)) => { is_pair(&held, &pair_from(side, own, other)) }
+    match (&own.landing, &other.landing, nth(relation, place)) {
+        (Some(own), Some(other), Some(held)) => {
+            is_state(state_on(side, held), own) && is_state(state_on(opposite(side), held), other)
+        }
         _ => false,
     }
 }
 
 impl<L: System, R: System> HeldStep<'_, L, R> {
+    pub(crate) fn is_receive(&self) -> bool {
+        is_receive(&self.listed.label)
+    }
+
     fn relation(&self) -> &[Pair]
         ensures { result.now ≡ self.now.held.now.between.now.comparison.now.relation.now }
     {
@@ -63,10 +68,21 @@ impl<L: System, R: System> HeldStep<'_, L, R> {
     {
         match self.held.step(opposite(self.side), reply) {
             Some(other) => {
-                are_alike(&self.listed, &other)
-                    && are_landings(self.relation(), self.side, &self.listed, &other, place)
+                are_alike(self.listed, other)
+                    && are_landings(self.relation(), self.side, self.listed, other, place)
             }
             None => false,
+        }
+    }
+
+    /// Whether this step and the step `reply` land at every value, in records of the relation; none where one of them is not
+    /// held as a receive.
+    fn form_records(&self, reply: usize) -> Option<bool>
+        ensures { IfSome result (λ b. Decides b ((v : ℤ) → in_range_of (meant L.System.means R.System.means self.now.held.now.between.now.comparison.now).left v ≡ true → LandsAt (meant L.System.means R.System.means self.now.held.now.between.now.comparison.now) self.now.side self.now.held.now.pair.now self.now.step reply v)) }
+    {
+        match self.side {
+            Side::Left => self.held.form_records(self.step, reply),
+            Side::Right => self.held.form_records(reply, self.step),
         }
     }
 
@@ -75,26 +91,15 @@ impl<L: System, R: System> HeldStep<'_, L, R> {
         ensures { Decides result (Reply (meant L.System.means R.System.means self.now.held.now.between.now.comparison.now) self.now.side self.now.held.now.pair.now self.now.step reply) }
     {
         let held = self.held;
-        let opposite = opposite(self.side);
-        let Some(other) = held.step(opposite, reply) else {
+        let Some(other) = held.step(opposite(self.side), reply) else {
             return false;
         };
         if !is_equal(&other.label, &self.listed.label) {
             return false;
         }
-        match (
-            held.landings(self.side, self.step),
-            held.landings(opposite, reply),
-        ) {
-            (Some(own), Some(other)) => Received {
-                relation: self.relation(),
-                index: held.index,
-                side: self.side,
-                own,
-                other,
-            }
-            .form_records(held.between.comparison.left.range()),
-            _ => held
+        match self.form_records(reply) {
+            Some(form_records) => form_records,
+            None => held
                 .between
                 .is_reply(self.side, held.pair, self.step as u64, reply as u64),
         }
@@ -111,38 +116,34 @@ impl<L: System, R: System> HeldStep<'_, L, R> {
         }
     }
 
-    /// Whether a reply is found that lands on the other state of the record.
-    fn finds_reply_at(&self, place: usize) -> bool
-        ensures { result ≡ true → Answered (meant L.System.means R.System.means self.now.held.now.between.now.comparison.now) self.now.side self.now.held.now.pair.now self.now.step }
+    /// A reply, if one is found, that lands on the other state of the record.
+    fn finds_reply_at(&self, place: usize) -> Option<usize>
+        ensures { IfSome result (λ j. Reply (meant L.System.means R.System.means self.now.held.now.between.now.comparison.now) self.now.side self.now.held.now.pair.now self.now.step j) }
     {
         let opposite = opposite(self.side);
-        let Some(partner) = self.held.index.on(opposite).entry(place) else {
-            return false;
-        };
+        let partner = self.held.index.on(opposite).entry(place)?;
         let wanted = step_fingerprint(&self.listed.label, partner.fingerprint);
-        self.held
-            .numbers(opposite)
-            .any(wanted, |reply| self.is_found_reply(reply, place))
+        self.held.numbers(opposite).find(wanted, |reply| {
+            self.is_found_reply(reply, place).then_some(reply)
+        })
     }
 
-    /// Whether a reply is found by the fingerprints. What is found is a reply, but one may be overlooked.
-    fn finds_reply(&self) -> bool
-        ensures { result ≡ true → Answered (meant L.System.means R.System.means self.now.held.now.between.now.comparison.now) self.now.side self.now.held.now.pair.now self.now.step }
+    /// A reply that is found by the fingerprints, if any is. What is found is a reply, but one may be overlooked.
+    pub(crate) fn finds_reply(&self) -> Option<usize>
+        ensures { IfSome result (λ j. Reply (meant L.System.means R.System.means self.now.held.now.between.now.comparison.now) self.now.side self.now.held.now.pair.now self.now.step j) }
     {
-        let Some(landing) = &self.listed.landing else {
-            return false;
-        };
+        let landing = self.listed.landing.as_ref()?;
         self.held
             .index
             .on(self.side)
-            .any(state_fingerprint(landing), |place| {
+            .find(state_fingerprint(landing), |place| {
                 self.finds_reply_at(place)
             })
     }
 
     /// Whether the step with that number on the opposite side has this one's label, and lands on the state.
     fn is_alike(&self, number: usize, landing: &State) -> bool
-        ensures { Decides result (Stands (listing_on (opposed self.now.side) (meant L.System.means R.System.means self.now.held.now.between.now.comparison.now) self.now.held.now.pair.now self.now.held.now.lowest) (record { label = self.now.listed.label; landing = Some landing.now }) number) }
+        ensures { Decides result (Stands (listing_on (opposed self.now.side) (meant L.System.means R.System.means self.now.held.now.between.now.comparison.now) self.now.held.now.pair.now self.now.held.now.lowest) (record { label = self.now.listed.now.label; landing = Some landing.now }) number) }
     {
         let Some(other) = self.held.step(opposite(self.side), number) else {
             return false;
@@ -155,24 +156,24 @@ impl<L: System, R: System> HeldStep<'_, L, R> {
 
     /// Whether the record with that number holds this step's landing, and a step with its label lands on the record's other state.
     fn is_seen_at(&self, number: usize) -> bool
-        ensures { Decides result (SeenAt (meant L.System.means R.System.means self.now.held.now.between.now.comparison.now) self.now.side self.now.held.now.pair.now self.now.held.now.lowest self.now.listed number) }
+        ensures { Decides result (SeenAt (meant L.System.means R.System.means self.now.held.now.between.now.comparison.now) self.now.side self.now.held.now.pair.now self.now.held.now.lowest self.now.listed.now number) }
     {
-        let (Some(own), Some(held)) = (self.listed.landing, nth(self.relation(), number)) else {
+        let (Some(own), Some(held)) = (&self.listed.landing, nth(self.relation(), number)) else {
             return false;
         };
-        if !is_equal(&own, &state_on(self.side, &held)) {
+        if !is_equal(own, state_on(self.side, held)) {
             return false;
         }
         let opposite = opposite(self.side);
-        let other = state_on(opposite, &held);
+        let other = state_on(opposite, held);
         (0..self.held.count(opposite) as usize)
-            .find(|&reply| self.is_alike(reply, &other))
+            .find(|&reply| self.is_alike(reply, other))
             .is_some()
     }
 
     /// Whether the step, which is no receive, has a reply.
     fn has_seen_reply(&self) -> bool
-        requires { receives self.now.listed.label ≡ false }
+        requires { receives self.now.listed.now.label ≡ false }
         ensures { Decides result (Answered (meant L.System.means R.System.means self.now.held.now.between.now.comparison.now) self.now.side self.now.held.now.pair.now self.now.step) }
     {
         (0..self.relation().len())
@@ -204,6 +205,6 @@ impl<L: System, R: System> HeldStep<'_, L, R> {
     pub(crate) fn is_answered(&self) -> bool
         ensures { Decides result (Answered (meant L.System.means R.System.means self.now.held.now.between.now.comparison.now) self.now.side self.now.held.now.pair.now self.now.step) }
     {
-        self.finds_reply() || self.has_reply()
+        self.finds_reply().is_some() || self.has_reply()
     }
 }

@@ -18,28 +18,34 @@ pub(crate) struct Index {
 }
 
 /// The pair's state on that side.
-pub(crate) fn state_on(side: Side, pair: &Pair) -> State
-    ensures { result ≡ state_on side pair.now }
+pub(crate) fn state_on(side: Side, pair: &Pair) -> &State
+    ensures { result.now ≡ state_on side pair.now }
 {
     match side {
-        Side::Left => pair.left,
-        Side::Right => pair.right,
+        Side::Left => &pair.left,
+        Side::Right => &pair.right,
     }
 }
 
-/// Whether the pairs are equal.
+/// Whether the states are equal.
 // By their bytes, which are compared at once; `==` goes from field to field.
-pub(crate) fn is_pair(one: &Pair, other: &Pair) -> bool
+pub(crate) fn is_state(one: &State, other: &State) -> bool
     ensures { Decides result (one.now ≡ other.now) }
 {
     one.to_bytes() == other.to_bytes()
+}
+
+fn is_pair(one: &Pair, other: &Pair) -> bool
+    ensures { Decides result (one.now ≡ other.now) }
+{
+    is_state(&one.left, &other.left) && is_state(&one.right, &other.right)
 }
 
 fn is_record(relation: &[Pair], number: usize, pair: &Pair) -> bool
     ensures { result ≡ true → Holds relation.now pair.now }
 {
     match nth(relation, number) {
-        Some(held) => is_pair(&held, pair),
+        Some(held) => is_pair(held, pair),
         None => false,
     }
 }
@@ -79,7 +85,10 @@ impl Index {
             state_fingerprint(&pair.right),
         );
         self.pairs
-            .any(wanted, |number| is_record(relation, number, pair))
+            .find(wanted, |number| {
+                is_record(relation, number, pair).then_some(number)
+            })
+            .is_some()
     }
 
     /// Whether the relation, of which this is the index, has the record.

@@ -8,9 +8,11 @@ pub mod fault;
 mod held;
 mod held_step;
 mod index;
+mod matching;
 mod numbers;
 mod received;
 pub mod reply;
+mod steps;
 #[cfg(test)]
 mod tests;
 pub mod verdict;

@@ -1,4 +1,4 @@
-ghost use Rattle.std.specs.Prelude.{◌≡◌, ℕ, true};
+ghost use Rattle.std.specs.Prelude.{ℕ, IfSome, Some};
 
 use model::label::Label;
 use model::state::State;
@@ -74,7 +74,7 @@ impl Numbers {
         buckets.resize(count, NONE)?;
         Ok(Numbers {
             buckets,
-            entries: Vec::new(heap),
+            entries: Vec::with_capacity(heap, count)?,
         })
     }
 
@@ -108,22 +108,27 @@ impl Numbers {
         self.buckets.get(bucket).copied().unwrap_or(NONE)
     }
 
-    /// Whether the test says yes of a thing with that fingerprint, by its number. Such a thing may be overlooked.
-    pub(crate) fn any<F: Fn(usize) -> bool>(&self, fingerprint: u64, test: F) -> bool
-        requires { F.IsAlwaysCallable test }
-        ensures { result ≡ true → (k : ℕ) × F.post test k true }
+    /// What `look` gives of a thing with that fingerprint, by its number. Such a thing may be overlooked.
+    pub(crate) fn find<F: Fn(usize) -> Option<usize>>(
+        &self,
+        fingerprint: u64,
+        look: F,
+    ) -> Option<usize>
+        requires { F.IsAlwaysCallable look }
+        ensures { IfSome result (λ found. (k : ℕ) × F.post look k (Some found)) }
     {
         let mut number = self.last(fingerprint);
         // at most all of them, so that it ends whatever the entries say
         for _ in 0..self.entries.len() {
-            let Some(entry) = self.entry(number) else {
-                return false;
-            };
-            if entry.fingerprint == fingerprint && test(number) {
-                return true;
+            let entry = self.entry(number)?;
+            if entry.fingerprint == fingerprint {
+                let found = look(number);
+                if found.is_some() {
+                    return found;
+                }
             }
             number = entry.before;
         }
-        false
+        None
     }
 }

@@ -1,52 +1,84 @@
-ghost use Rattle.std.specs.Prelude.{◌≡◌, ℤ, true, pos, negsuc, ◌≤ℤ◌, Decides};
-ghost use Rattle.model.specs.Ranges.{in_range};
-ghost use Rattle.judge.specs.Likeness.{FormAt, in_bytes};
+ghost use Rattle.std.specs.Prelude.{◌≡◌, ℤ, true, IfSome, Decides};
+ghost use Rattle.lists.specs.Words.{Stands};
+ghost use Rattle.questions.specs.declared.Side.TheVariants.{Left, Right};
+ghost use Rattle.systems.specs.Meaning.{in_range_of};
+ghost use Rattle.judge.specs.Comparing.{meant, landing_on};
+ghost use Rattle.judge.specs.Likeness.{LandsAt};
 
-use crate::comparison::pair_from;
-use crate::held::nth;
-use crate::index::Index;
-use model::range::Range;
+use crate::held::Held;
 use model::state::{Pair, State};
-use model::value::{Value, byte_of};
-use questions::Side;
+use model::value::Value;
+use systems::System;
 
-/// The landings of two steps by the value's byte, the one on the side and the one on the opposite side, and the relation
-/// with its index.
+/// Held receives of both states of the pair, by what the systems tell them by.
 #[derive(Drop)]
-pub(crate) struct Received<'a> {
-    pub(crate) relation: &'a [Pair],
-    pub(crate) index: &'a Index,
-    pub(crate) side: Side,
-    pub(crate) own: &'a [Option<State>],
-    pub(crate) other: &'a [Option<State>],
+struct Received<'a, L: System, R: System> {
+    held: &'a Held<'a, L, R>,
+    left_step: usize,
+    right_step: usize,
+    left: &'a L::Receive,
+    right: &'a R::Receive,
+    ghost left_at: { Stands ((L.System.means held.now.between.now.comparison.now.left.now).steps held.now.pair.now.left) (L.System.receive_by held.now.between.now.comparison.now.left.now held.now.pair.now.left left.now) left_step },
+    ghost right_at: { Stands ((R.System.means held.now.between.now.comparison.now.right.now).steps held.now.pair.now.right) (R.System.receive_by held.now.between.now.comparison.now.right.now held.now.pair.now.right right.now) right_step },
 }
 
-/// The landing at the value.
-fn landing_in(landings: &[Option<State>], value: Value) -> Option<State>
-    ensures { result ≡ in_bytes landings.now value }
-{
-    nth(landings, usize::from(byte_of(value))).unwrap_or(None)
-}
+impl<L: System, R: System> Received<'_, L, R> {
+    fn left_landing(&self, value: Value) -> Option<State>
+        ensures { result ≡ landing_on Left (meant L.System.means R.System.means self.now.held.now.between.now.comparison.now) self.now.held.now.pair.now self.now.left_step value }
+    {
+        let Held { between, pair, .. } = self.held;
+        between
+            .comparison
+            .left
+            .landing_by(&pair.left, self.left, value)
+    }
 
-impl Received<'_> {
+    fn right_landing(&self, value: Value) -> Option<State>
+        ensures { result ≡ landing_on Right (meant L.System.means R.System.means self.now.held.now.between.now.comparison.now) self.now.held.now.pair.now self.now.right_step value }
+    {
+        let Held { between, pair, .. } = self.held;
+        between
+            .comparison
+            .right
+            .landing_by(&pair.right, self.right, value)
+    }
+
     /// Whether both land at the value, and their landings form a record of the relation.
     fn form_record(&self, value: Value) -> bool
-        ensures { Decides result (FormAt self.now.relation.now self.now.side (in_bytes self.now.own.now) (in_bytes self.now.other.now) value) }
+        ensures { Decides result (LandsAt (meant L.System.means R.System.means self.now.held.now.between.now.comparison.now) Left self.now.held.now.pair.now self.now.left_step self.now.right_step value) }
     {
-        match (landing_in(self.own, value), landing_in(self.other, value)) {
-            (Some(own), Some(other)) => self
-                .index
-                .holds(self.relation, &pair_from(self.side, own, other)),
+        let Held { between, index, .. } = self.held;
+        match (self.left_landing(value), self.right_landing(value)) {
+            (Some(left), Some(right)) => index.holds(
+                between.comparison.relation,
+                &Pair { left, right },
+            ),
             _ => false,
         }
     }
 
-    /// The same at every value of the range.
-    pub(crate) fn form_records(&self, range: Range) -> bool
-        ensures each { Decides result ((v : ℤ) → in_range range.lo range.hi v ≡ true → FormAt self.now.relation.now self.now.side (in_bytes self.now.own.now) (in_bytes self.now.other.now) v) }
-        ensures low { negsuc 127 ≤ℤ range.lo }
-        ensures high { range.hi ≤ℤ pos 127 }
+    /// The same at every value in the range.
+    fn form_records(&self) -> bool
+        ensures { Decides result ((v : ℤ) → in_range_of (meant L.System.means R.System.means self.now.held.now.between.now.comparison.now).left v ≡ true → LandsAt (meant L.System.means R.System.means self.now.held.now.between.now.comparison.now) Left self.now.held.now.pair.now self.now.left_step self.now.right_step v) }
     {
+        let range = self.held.between.comparison.left.range();
         (range.lo..=range.hi).all(|value| self.form_record(value))
+    }
+}
+
+impl<L: System, R: System> Held<'_, L, R> {
+    /// Whether the receives with these numbers form records of the relation at every value; none where one of them is not
+    /// held.
+    pub(crate) fn form_records(&self, left_step: usize, right_step: usize) -> Option<bool>
+        ensures { IfSome result (λ b. Decides b ((v : ℤ) → in_range_of (meant L.System.means R.System.means self.now.between.now.comparison.now).left v ≡ true → LandsAt (meant L.System.means R.System.means self.now.between.now.comparison.now) Left self.now.pair.now left_step right_step v)) }
+    {
+        let received = Received {
+            held: self,
+            left_step,
+            right_step,
+            left: self.left.receive(left_step)?,
+            right: self.right.receive(right_step)?,
+        };
+        Some(received.form_records())
     }
 }

@@ -9,7 +9,7 @@ use model::label::Label;
 use model::range::Range;
 use model::state::{Pair, State};
 use model::value::Value;
-use std::alloc::Global;
+use std::alloc::{AllocError, Global};
 use std::test::Fail;
 use systems::System;
 
@@ -22,6 +22,8 @@ struct Toy {
 }
 
 impl System for Toy {
+    type Receive = u8;
+
     ghost means = { λ toy. record {
       lo = toy.range.lo;
       hi = toy.range.hi;
@@ -29,6 +31,8 @@ impl System for Toy {
       shown = λ _. toy.groups;
       steps = λ s. record { label = Silent; landing = λ _. s } ∷ (if toy.moves then (record { label = Movement; landing = λ _. s } ∷ []) else []);
     } };
+
+    ghost receive_by = { λ _ s _. record { label = Silent; landing = λ _. s } };
 
     ghost keeps = { Prim.search rules };
 
@@ -61,6 +65,14 @@ impl System for Toy {
             Some(_) if self.range.holds(value) => Some(*state),
             _ => None,
         }
+    }
+
+    fn receives(&self, heap: Global, _state: &State) -> Result<Vec<u8>, AllocError> {
+        Ok(Vec::new(heap))
+    }
+
+    fn landing_by(&self, state: &State, _receive: &u8, value: Value) -> Option<State> {
+        self.range.holds(value).then_some(*state)
     }
 }
 

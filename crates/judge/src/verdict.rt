@@ -7,8 +7,8 @@ ghost use Rattle.judge.specs.Judged.{steps_asked, pair_asked, judge_refusal, Jud
 use crate::aligned::Aligned;
 use crate::comparison::{Comparison, opposite};
 use crate::fault::Fault;
-use crate::held::Held;
 use crate::index::Index;
+use crate::matching::Matching;
 use model::state::Pair;
 use questions::Side;
 use std::alloc::Global;
@@ -53,15 +53,15 @@ impl<L: System, R: System> Aligned<'_, L, R> {
     /// The same, by what is held of the pair, if anything is.
     fn first_unanswered(
         &self,
-        held: &Option<Held<'_, L, R>>,
+        matching: &Option<Matching<'_, L, R>>,
         side: Side,
         pair: &Pair,
     ) -> Option<u64>
-        requires { IfSome held.now (λ x. (x.between.now ≡ self.now) × (x.pair.now ≡ pair.now)) }
+        requires { IfSome matching.now (λ x. (x.held.between.now ≡ self.now) × (x.held.pair.now ≡ pair.now)) }
         ensures { result ≡ first_no (steps_asked (meant L.System.means R.System.means self.now.comparison.now) side pair.now) }
     {
-        match held {
-            Some(held) => held.first_without_reply(side),
+        match matching {
+            Some(matching) => matching.first_without_reply(side),
             None => self.first_without_reply(side, pair),
         }
     }
@@ -86,14 +86,14 @@ impl<L: System, R: System> Aligned<'_, L, R> {
         if left.shown(&pair.left) != right.shown(&pair.right) {
             return Err(Fault::Shown { pair: k });
         }
-        let held = match index {
-            Some(index) => self.held(heap, index, pair),
+        let matching = match index {
+            Some(index) => self.matching(heap, index, pair),
             None => None,
         };
-        if let Some(step) = self.first_unanswered(&held, Side::Left, pair) {
+        if let Some(step) = self.first_unanswered(&matching, Side::Left, pair) {
             return Err(Fault::LeftStep { pair: k, step });
         }
-        if let Some(step) = self.first_unanswered(&held, Side::Right, pair) {
+        if let Some(step) = self.first_unanswered(&matching, Side::Right, pair) {
             return Err(Fault::RightStep { pair: k, step });
         }
         Ok(())

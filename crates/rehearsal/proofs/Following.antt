@@ -8,19 +8,12 @@ use Rattle.questions.specs.declared.Side.TheVariants.{Left, Right}
 use Rattle.model.specs.declared.label.Label.{Label}
 use Rattle.model.specs.declared.state.State.{State}
 use Rattle.systems.specs.Meaning.{Step}
-use Rattle.judge.specs.Comparing.{Compared, opposed, pair_from, state_on, system_on, steps_on}
+use Rattle.judge.specs.Comparing.{Compared, opposed, pair_from, system_on, steps_on}
 use Rattle.judge.specs.Likeness.{Holds, Matched, Bisimulation}
 use Rattle.judge.proofs.Replying.{range_on}
+use Rattle.judge.proofs.Seen.{own_state, other_state}
 use Rattle.rehearsal.specs.Runs.{Run, Event, RunMatched, RunsMatched}
 use Rattle.rehearsal.specs.Runs.Run.{stops, goes}
-
-own_state : (side : Side) (s t : State) → state_on side (pair_from side s t) ≡ s
-own_state Left s t = refl
-own_state Right s t = refl
-
-other_state : (side : Side) (s t : State) → state_on (opposed side) (pair_from side s t) ≡ t
-other_state Left s t = refl
-other_state Right s t = refl
 
 event_same : {k l : Label} {es fs : List Event} (v : ℤ) → k ≡ l → es ≡ fs → ◌≡◌ {A = List Event} (record { label = k; value = v } ∷ es) (record { label = l; value = v } ∷ fs)
 event_same v p q = cc

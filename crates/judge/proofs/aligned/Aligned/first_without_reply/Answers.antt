@@ -1,4 +1,4 @@
-use Rattle.std.proofs.Common.{ℕ, ◌<◌, rules}
+use Rattle.std.proofs.Common.{ℕ, ◌<◌, subst, rules}
 use Rattle.std.proofs.lemmas.Bool.{false≢true}
 use Rattle.judge.specs.Comparing.{meant}
 use Rattle.judge.specs.Likeness.{Reply}
@@ -13,5 +13,6 @@ returns g c =
     let side = c.args.side in
     let pair = c.args.pair.now in
     let n = c.step_count-count.result in
+    let lacks : ℕ → Type 0 = λ i. (j : ℕ) × ((j < n) × Reply x side pair i j) → ⊥ in
     first_unanswered x own.one_range side pair n (rw c.opposite.ensures at c.step_count-count.ensures) c.step_count.result c.find.result c.step_count.ensures
-    (first_found _ (λ i. (j : ℕ) × ((j < n) × Reply x side pair i j) → ⊥) (λ k q h. search (rules, false≢true)) (λ k q h. search (rules, false≢true)) c.step_count.result _ c.find.result c.find.ensures.ran)
+    (first_found _ lacks (λ k q h. subst lacks h.shows (search (rules, false≢true))) (λ k q h. search (rules, false≢true)) c.step_count.result _ c.find.result c.find.ensures.ran)

@@ -13,7 +13,7 @@ returns g c =
     let between = held.between.now in
     let comparison = between.comparison.now in
     let x = meant g.L.System.means g.R.System.means comparison in
-    seen_answered x own.side held.pair.now held.lowest own.step own.listed between.one_range (g.met.L.System.keeps comparison.left.now) (g.met.R.System.keeps comparison.right.now) held.low own.at c.requires
+    seen_answered x own.side held.pair.now held.lowest own.step own.listed.now between.one_range (g.met.L.System.keeps comparison.left.now) (g.met.R.System.keeps comparison.right.now) held.low own.at c.requires
     (length c.relation.result.now) c.find.result c.is_some.result (ap length c.relation.ensures)
-    (first_found _ (SeenAt x own.side held.pair.now held.lowest own.listed) (λ k q h. search (rules, false≢true)) (λ k q h. search (rules, false≢true)) (length c.relation.result.now) _ c.find.result c.find.ensures.ran)
+    (first_found _ (SeenAt x own.side held.pair.now held.lowest own.listed.now) (λ k q h. search (rules, false≢true)) (λ k q h. search (rules, false≢true)) (length c.relation.result.now) _ c.find.result c.find.ensures.ran)
     c.is_some.ensures

@@ -14,8 +14,8 @@ returns-then-not-is_equal g c =
     let x = meant g.L.System.means g.R.System.means held.between.now.comparison.now in
     let found = c.in-Some-Some in (
       λ e. absurd (false≢true e),
-      λ s. absurd (not_seen_at x own.side (opposed own.side) held.pair.now held.lowest own.listed refl c.args.number found.own found.held found.is-0
-          (ap (λ r. slice_get r c.args.number) (sym c.relation.ensures) ∙ sym c.nth.ensures ∙ found.is-1)
+      λ s. absurd (not_seen_at x own.side (opposed own.side) held.pair.now held.lowest own.listed.now refl c.args.number found.own found.held.now found.is-0
+          (ap (λ r. slice_get r c.args.number) (sym c.relation.ensures) ∙ rw found.is-1 at c.nth.ensures)
           (λ e. false≢true (sym c.if-not-is_equal.true ∙ c.is_equal.ensures.1 (e ∙ sym c.state_on.ensures))) s),
     )
 
@@ -25,8 +25,8 @@ returns g c =
     let held = own.held.now in
     let x = meant g.L.System.means g.R.System.means held.between.now.comparison.now in
     let found = c.in-Some-Some in
-    seen_at x own.side c.opposite-opposite.result held.pair.now held.lowest own.listed c.opposite-opposite.ensures c.args.number found.own found.held found.is-0
-    (ap (λ r. slice_get r c.args.number) (sym c.relation.ensures) ∙ sym c.nth.ensures ∙ found.is-1)
-    c.state_on-other.result c.count.result c.find.result c.is_some.result (c.is_equal.ensures.0 c.if-not-is_equal.false ∙ c.state_on.ensures) c.state_on-other.ensures c.count.ensures
-    (first_found _ (λ j. Stands (listing_on (opposed own.side) x held.pair.now held.lowest) (record { label = own.listed.label; landing = Some c.state_on-other.result }) j) (λ k q h. search (rules, false≢true)) (λ k q h. search (rules, false≢true)) c.count.result _ c.find.result c.find.ensures.ran)
+    seen_at x own.side c.opposite-opposite.result held.pair.now held.lowest own.listed.now c.opposite-opposite.ensures c.args.number found.own found.held.now found.is-0
+    (ap (λ r. slice_get r c.args.number) (sym c.relation.ensures) ∙ rw found.is-1 at c.nth.ensures)
+    c.state_on-other.result.now c.count.result c.find.result c.is_some.result (c.is_equal.ensures.0 c.if-not-is_equal.false ∙ c.state_on.ensures) c.state_on-other.ensures c.count.ensures
+    (first_found _ (λ j. Stands (listing_on (opposed own.side) x held.pair.now held.lowest) (record { label = own.listed.now.label; landing = Some c.state_on-other.result.now }) j) (λ k q h. search (rules, false≢true)) (λ k q h. search (rules, false≢true)) c.count.result _ c.find.result c.find.ensures.ran)
     c.is_some.ensures
