@@ -29,11 +29,11 @@ module _ (bytes : List ℕ) where
     -- the relation as the judge is lent it
     module _ (j : Job) (loaded : Loaded bytes j) (lent : List Pair) (whole : lent ≡ vec_items j.relation) where
       abbrev read : Compared
-      read = comparing (loaded_meaning j.left) (loaded_meaning j.right) lent
+      read = comparing (loaded_meaning j.left.table j.left.rule) (loaded_meaning j.right.table j.right.rule) lent
 
       same : read ≡ compared_in bytes
       same =
-          ap (λ m. comparing m (loaded_meaning j.right) lent) loaded.left
+          ap (λ m. comparing m (loaded_meaning j.right.table j.right.rule) lent) loaded.left
           ∙ ap (λ m. comparing (side_meaning Left bytes) m lent) loaded.right
           ∙ ap (λ rel. comparing (side_meaning Left bytes) (side_meaning Right bytes) rel) (whole ∙ loaded.relation)
 

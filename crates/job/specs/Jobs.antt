@@ -24,6 +24,6 @@ job_asked bytes = layouts_asked bytes ++ judge_asked (compared_in bytes)
 
 -- a job as it is loaded from an input
 pub record Loaded (bytes : List ℕ) (j : Job) : Type 0 where
-  pub left : loaded_meaning j.left ≡ side_meaning Left bytes
-  pub right : loaded_meaning j.right ≡ side_meaning Right bytes
+  pub left : loaded_meaning j.left.table j.left.rule ≡ side_meaning Left bytes
+  pub right : loaded_meaning j.right.table j.right.rule ≡ side_meaning Right bytes
   pub relation : vec_items j.relation ≡ relation_of bytes

@@ -12,9 +12,9 @@ use Rattle.rules.specs.declared.links.Links.{Links}
 use Rattle.rules.specs.declared.tuner.Tuner.{Tuner}
 use Rattle.systems.specs.Meaning.{Meaning}
 use Rattle.ways.specs.Nets.{Net, net_of}
+use Rattle.ways.specs.declared.table.Table.{Table}
 use Rattle.network.specs.Loads.{network_asked, net_in}
 use Rattle.network.specs.Meanings.{network_meaning}
-use Rattle.network.specs.declared.network.Network.{Network}
 use Rattle.frames.specs.Payloads.{side_bytes, setting_of}
 use Rattle.frames.specs.declared.kind.Kind.TheVariants.{Row, Link}
 use Rattle.frames.specs.declared.setting.Setting.{Setting}
@@ -47,8 +47,8 @@ side_meaning side bytes = network_meaning (side_net side bytes) (side_allows sid
 abbrev pub ruled_meaning : Net → Both Links Tuner → Meaning
 ruled_meaning net rule = network_meaning net (λ sets. links_allow rule.one sets && tuned_to rule.other.limit sets)
 
-abbrev pub loaded_meaning : Network (Both Links Tuner) → Meaning
-loaded_meaning n = ruled_meaning (net_of n.table) n.rule
+abbrev pub loaded_meaning : Table → Both Links Tuner → Meaning
+loaded_meaning table rule = ruled_meaning (net_of table) rule
 
 -- the values of a side's setting, once they are held to their questions
 pub record Holds (t : Setting) (x : Held) : Type 0 where

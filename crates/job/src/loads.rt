@@ -42,7 +42,7 @@ impl Checked<'_> {
         rule: Both<Links, Tuner>,
     ) -> Result<Network<Both<Links, Tuner>>, NetworkFault>
         ensures memory { refusal_of network_refusal result ≡ None }
-        ensures means { IfOk result (λ n. loaded_meaning n ≡ ruled_meaning (side_net self.now.records.side self.now.records.bytes.now) rule) }
+        ensures means { IfOk result (λ n. loaded_meaning n.table n.rule ≡ ruled_meaning (side_net self.now.records.side self.now.records.bytes.now) rule) }
     {
         let Held {
             range,
@@ -56,7 +56,7 @@ impl Checked<'_> {
 
     fn load_tables(&self, heap: Global) -> Result<Network<Both<Links, Tuner>>, SideFault>
         ensures memory { refusal_of side_refusal result ≡ None }
-        ensures means { IfOk result (λ n. loaded_meaning n ≡ side_meaning self.now.records.side self.now.records.bytes.now) }
+        ensures means { IfOk result (λ n. loaded_meaning n.table n.rule ≡ side_meaning self.now.records.side self.now.records.bytes.now) }
     {
         let rule = Both {
             one: self.load_links(heap)?,
@@ -68,7 +68,7 @@ impl Checked<'_> {
     /// The network of the side, if there is memory for it.
     pub(crate) fn load(&self, heap: Global) -> Result<Network<Both<Links, Tuner>>, JobFault>
         ensures memory { refusal_of job_refusal result ≡ None }
-        ensures means { IfOk result (λ n. loaded_meaning n ≡ side_meaning self.now.records.side self.now.records.bytes.now) }
+        ensures means { IfOk result (λ n. loaded_meaning n.table n.rule ≡ side_meaning self.now.records.side self.now.records.bytes.now) }
     {
         let side = self.records.side;
         self.load_tables(heap)

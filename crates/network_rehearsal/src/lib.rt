@@ -3,7 +3,8 @@
 #![tactic(auto)]
 
 ghost use Rattle.rehearsal.specs.Law.{Law};
-ghost use Rattle.network_rehearsal.specs.Exact.{networks_of, ExactSteps};
+ghost use Rattle.judge.specs.Comparing.{comparing};
+ghost use Rattle.network_rehearsal.specs.Exact.{ruled, ExactSteps};
 
 use judge::comparison::Comparison;
 use network::network::Network;
@@ -24,9 +25,9 @@ pub fn rehearse_networks<P: Rule, Q: Rule>(
     pair: usize,
     attempts: &mut [Attempt],
 ) -> Result<Play, RehearsalFault>
-    ensures law { Law (networks_of P.Rule.allowed Q.Rule.allowed comparison.now) pair attempts.old attempts.new result }
-    ensures left_exact { ExactSteps P.Rule.allowed comparison.now.left.now }
-    ensures right_exact { ExactSteps Q.Rule.allowed comparison.now.right.now }
+    ensures law { Law (comparing (ruled P.Rule.allowed comparison.now.left.now.table comparison.now.left.now.rule) (ruled Q.Rule.allowed comparison.now.right.now.table comparison.now.right.now.rule) comparison.now.relation.now) pair attempts.old attempts.new result }
+    ensures left_exact { ExactSteps P.Rule.allowed comparison.now.left.now.table comparison.now.left.now.rule }
+    ensures right_exact { ExactSteps Q.Rule.allowed comparison.now.right.now.table comparison.now.right.now.rule }
 {
     rehearse(heap, comparison, pair, attempts)
 }

@@ -52,8 +52,8 @@ told_answers bytes None h = h
 told_answers bytes (Some r) h = h
 
 -- the relation as the judge is lent it
-pub judged_same : (bytes : List ℕ) (j : Job) (loaded : Loaded bytes j) (lent : List Pair) → lent ≡ vec_items j.relation → comparing (loaded_meaning j.left) (loaded_meaning j.right) lent ≡ compared_in bytes
+pub judged_same : (bytes : List ℕ) (j : Job) (loaded : Loaded bytes j) (lent : List Pair) → lent ≡ vec_items j.relation → comparing (loaded_meaning j.left.table j.left.rule) (loaded_meaning j.right.table j.right.rule) lent ≡ compared_in bytes
 judged_same bytes j loaded lent whole =
-    ap (λ m. comparing m (loaded_meaning j.right) lent) loaded.left
+    ap (λ m. comparing m (loaded_meaning j.right.table j.right.rule) lent) loaded.left
     ∙ ap (λ m. comparing (side_meaning Left bytes) m lent) loaded.right
     ∙ ap (λ rel. comparing (side_meaning Left bytes) (side_meaning Right bytes) rel) (whole ∙ loaded.relation)

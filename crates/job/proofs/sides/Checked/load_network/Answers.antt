@@ -23,5 +23,5 @@ returns c =
     let net = ap (λ rows. net_in x.range.lo x.range.hi x.free x.units rows) b ∙ side_net_lem side bytes x own.holds in
     record {
       memory = c.load.ensures.refuses ∙ ap (λ rows. first_no (network_asked x.range.lo x.range.hi x.units rows)) b ∙ sym (side_network side bytes own.asked x own.holds);
-      means = subst (λ (m : Net). IfOk c.load.result (λ n. loaded_meaning n ≡ ruled_meaning m c.args.rule)) net c.load.ensures.loads;
+      means = subst (λ (m : Net). IfOk c.load.result (λ n. loaded_meaning n.table n.rule ≡ ruled_meaning m c.args.rule)) net c.load.ensures.loads;
     }
