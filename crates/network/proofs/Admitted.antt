@@ -17,10 +17,11 @@ kept_within p q fails (x ∷ xs) =
       | false ↦ (λ e. kept_within p q fails xs ∙ sym (ap (λ b. cond b (x ∷ filter p xs) (filter p xs)) (fails x e)))
     ] refl
 
--- the sets that a unit may move to are among those that the rule admits
-pub moves_admitted : (n : Net) (allowed : List GroupSet → Bool) (admitted : GroupSet → Bool) (s : State) (u : ℕ) → n.units ≤ 6 → u < n.units
+-- of the sets that the rule admits, those that a unit may move to are all that it may move to
+pub moves_admitted : (n : Net) (allowed : List GroupSet → Bool) (admitted : GroupSet → Bool) (s : State) (u : ℕ) (bs : List ℕ) → n.units ≤ 6 → u < n.units
     → ((set : GroupSet) (sets : List GroupSet) (unit : ℕ) → admitted set ≡ false → Stands sets set unit → allowed sets ≡ false)
-    → filter (λ b. may_move n allowed s u (set_of b)) (filter (λ b. admitted (set_of b)) set_numbers) ≡ filter (λ b. may_move n allowed s u (set_of b)) set_numbers
-moves_admitted n allowed admitted s u few h bars =
-    kept_within (λ b. may_move n allowed s u (set_of b)) (λ b. admitted (set_of b))
-    (λ b e. sym (unmoved _ _ _ (bars (set_of b) (placed n (moved s u (set_of b))) u e (stands_moved n s u (set_of b) few h)))) set_numbers
+    → bs ≡ filter (λ b. admitted (set_of b)) set_numbers → filter (λ b. may_move n allowed s u (set_of b)) bs ≡ filter (λ b. may_move n allowed s u (set_of b)) set_numbers
+moves_admitted n allowed admitted s u bs few h bars listed =
+    let may = λ (b : ℕ). may_move n allowed s u (set_of b) in
+    ap (filter may) listed
+    ∙ kept_within may (λ b. admitted (set_of b)) (λ b e. sym (unmoved _ _ _ (bars (set_of b) (placed n (moved s u (set_of b))) u e (stands_moved n s u (set_of b) few h)))) set_numbers

@@ -1,7 +1,6 @@
 -- From ways to steps, and what a network keeps as a system. Assumes nothing.
-use Rattle.std.specs.Prelude.{◌≡◌, ℕ, ◌+◌, Bool, true, false, cond, List, [], ◌∷◌, ◌++◌, map, length, ℤ, ◌≤ℤ◌, refl}
+use Rattle.std.specs.Prelude.{◌≡◌, ℕ, Bool, false, cond, List, [], ◌∷◌, map, ℤ, ◌≤ℤ◌, refl}
 use Rattle.std.proofs.Common.{sym, ap, ◌∙◌}
-use Rattle.std.proofs.lemmas.List.{length-map, length-append}
 use Rattle.std.proofs.lemmas.Bool.{true≢false}
 use Rattle.lists.specs.Words.{given, Stands}
 use Rattle.lists.proofs.Mapped.{mapped_from}
@@ -18,10 +17,6 @@ use Rattle.ways.specs.declared.way.Way.TheVariants.{Move, Act}
 use Rattle.ways.specs.Nets.{Net, unit_at, row_at, free_part}
 use Rattle.ways.specs.Landings.{label_of, landing_of, act_label, acted, incoming, step_of, listed_of}
 use Rattle.network.specs.Meanings.{set_of, ways, lawful_ways, union_shown, network_meaning}
-
--- how many steps there are
-pub count_when : {X Y : Type 0} (f : X → Y) (b : Bool) (xs ys : List X) (n m : ℕ) → true ≡ b → n ≡ length xs → m ≡ length ys → n + m ≡ length (map f (cond b (xs ++ ys) []))
-count_when f b xs ys n m e p q = ap (λ x. x + m) p ∙ ap (λ x. length xs + x) q ∙ sym (length-append xs ys) ∙ sym (length-map (xs ++ ys) f) ∙ ap (λ c. length (map f (cond c (xs ++ ys) []))) e
 
 module _ (n : Net) (s : State) where
   -- only a receive may land differently by value

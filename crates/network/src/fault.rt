@@ -14,7 +14,7 @@ use tables::TableFault;
 pub enum NetworkFault {
     /// There are not 1 to 6 units. A placement has a fault of its own for that, since it has no other.
     Units,
-    /// The table of its rows is not loaded.
+    /// The table of its rows is not loaded, or there is no memory for the sets that its rule admits.
     Rows(TableFault),
 }
 

@@ -40,6 +40,6 @@ returns g c =
     let was = vec_items c.args.steps.now in
     let same = to_z-of_z w8 c.args.value c.ranges.value in
     (rw same at c.loop-bits.invariant)
-    ∙ ap (λ bs. was ++ map (λ b. listed_of n s c.args.value (move b)) (filter may bs)) (take_all c.loop-bits.bits-index c.deref-bits-items.result.now c.loop-bits-test.false ∙ c.deref-bits-items.ensures.value ∙ own.listed)
-    ∙ ap (λ bs. was ++ map (λ b. listed_of n s c.args.value (move b)) bs) (moves_admitted n allowed (g.R.Rule.admitted own.rule) s c.args.unit own.table.most c.requires.unit (g.met.R.Rule.bars own.rule))
+    ∙ ap (λ bs. was ++ map (λ b. listed_of n s c.args.value (move b)) (filter may bs)) (take_all c.loop-bits.bits-index c.deref-bits-items.result.now c.loop-bits-test.false ∙ c.deref-bits-items.ensures.value)
+    ∙ ap (λ bs. was ++ map (λ b. listed_of n s c.args.value (move b)) bs) (moves_admitted n allowed (g.R.Rule.admitted own.rule) s c.args.unit (vec_items own.sets) own.table.most c.requires.unit (g.met.R.Rule.bars own.rule) own.listed)
     ∙ ap (λ ls. was ++ ls) (sym (map-map (listed_of n s c.args.value) move (filter may set_numbers)))

@@ -17,5 +17,5 @@ returns g c =
     let may = λ (b : ℕ). may_move n allowed c.args.state.now c.args.unit (set_of b) in
     λ within.
     count_from_yields_List _ _ c.count.ensures.ran (YieldsList-from_filter _ may (YieldsList-at c.filter.ensures.source (YieldsList-from_slice (vec_items own.sets) (c.iter.ensures.rest ∙ c.deref.ensures.value))) c.filter.ensures.closure (λ x b q k. search (rules, tests)))
-    ∙ ap (λ bs. length (filter may bs)) own.listed ∙ ap length (moves_admitted n allowed (g.R.Rule.admitted own.rule) c.args.state.now c.args.unit own.table.most within (g.met.R.Rule.bars own.rule))
+    ∙ ap length (moves_admitted n allowed (g.R.Rule.admitted own.rule) c.args.state.now c.args.unit (vec_items own.sets) own.table.most within (g.met.R.Rule.bars own.rule) own.listed)
     ∙ sym (length-map (filter may set_numbers) (λ b. Move c.args.unit (set_of b)))

@@ -20,6 +20,5 @@ returns g c =
     let found =
     c.copied-bits.ensures
     ∙ nth_from_yields_List c.nth.result c.nth.new.self c.args.number c.nth.ensures.ran (YieldsList-from_filter _ may (YieldsList-at c.filter.ensures.source (YieldsList-from_slice (vec_items own.sets) (c.iter.ensures.rest ∙ c.deref.ensures.value))) c.filter.ensures.closure (λ x b q k. search (rules, tests)))
-    ∙ ap (λ bs. slice_get (filter may bs) c.args.number) own.listed
-    ∙ ap (λ bs. slice_get bs c.args.number) (moves_admitted n allowed (g.R.Rule.admitted own.rule) c.args.state.now c.args.unit own.table.most c.requires.unit (g.met.R.Rule.bars own.rule)) in
+    ∙ ap (λ bs. slice_get bs c.args.number) (moves_admitted n allowed (g.R.Rule.admitted own.rule) c.args.state.now c.args.unit (vec_items own.sets) own.table.most c.requires.unit (g.met.R.Rule.bars own.rule) own.listed) in
     c.moving.ensures ∙ ap (through move) found ∙ sym (nth_mapped move (filter may set_numbers) c.args.number)
