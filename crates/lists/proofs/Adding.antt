@@ -6,7 +6,7 @@ use Rattle.std.proofs.lemmas.List.Concat.{flat_map-append}
 use Rattle.std.proofs.lemmas.List.Elements.{filter-append}
 use Rattle.lists.proofs.Listed.{counting_push}
 
-pub push_0 : (k : ℕ) → range_with_len 0 (k + 1) ≡ range_with_len 0 k ++ (k ∷ [])
+push_0 : (k : ℕ) → range_with_len 0 (k + 1) ≡ range_with_len 0 k ++ (k ∷ [])
 push_0 k = counting_push 0 k ∙ ap (λ b. range_with_len 0 k ++ (b ∷ [])) (let e : 0 + k ≡ k = omega arith in e)
 
 pub joined_push : {Y : Type 0} (f : ℕ → List Y) (k : ℕ) → flat_map f (range_with_len 0 (k + 1)) ≡ flat_map f (range_with_len 0 k) ++ f k

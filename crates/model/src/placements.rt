@@ -1,4 +1,4 @@
-ghost use Rattle.std.specs.Prelude.{◌≡◌, take, IfOk, Some, codes, slice_set};
+ghost use Rattle.std.specs.Prelude.{◌≡◌, take, IfOk, Some, codes};
 ghost use Rattle.questions.specs.Asking.{first_no, refusal_of};
 ghost use Rattle.model.specs.Placements.{sets_of, units_asked, units_refusal};
 
@@ -27,20 +27,6 @@ impl Placement {
         ensures { result.now ≡ sets_of self.now }
     {
         &self.slots[0..self.units]
-    }
-
-    /// The placement with one unit on another set. Past the last unit it is the same placement.
-    pub fn with(&self, unit: usize, set: GroupSet) -> Placement
-        ensures { sets_of result ≡ slice_set (sets_of self.now) unit set }
-    {
-        let mut slots = self.slots;
-        if unit < self.units {
-            slots[unit] = set;
-        }
-        Placement {
-            units: self.units,
-            slots,
-        }
     }
 }
 

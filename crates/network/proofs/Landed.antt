@@ -2,6 +2,7 @@
 use Rattle.std.proofs.Common.{◌≡◌, ℕ, zero, suc, Bool, cond, List, [], ◌∷◌, map, ℤ, None, Option, refl, ap, ◌∙◌}
 use Rattle.std.specs.List.{slice_get}
 use Rattle.lists.specs.Words.{through}
+use Rattle.lists.proofs.Mapped.{mapped_through}
 use Rattle.model.specs.Ranges.{in_range}
 use Rattle.model.specs.declared.group_set.GroupSet.{GroupSet}
 use Rattle.model.specs.declared.state.State.{State}
@@ -10,11 +11,6 @@ use Rattle.ways.specs.declared.way.Way.{Way}
 use Rattle.ways.specs.Nets.{Net}
 use Rattle.ways.specs.Landings.{landing_of, step_of}
 use Rattle.network.specs.Meanings.{lawful_ways, network_meaning}
-
-mapped_through : {X Y Z : Type 0} (f : X → Y) (q : Y → Z) (xs : List X) (i : ℕ) → through (λ x. q (f x)) (slice_get xs i) ≡ through q (slice_get (map f xs) i)
-mapped_through f q [] i = refl
-mapped_through f q (x ∷ xs) zero = refl
-mapped_through f q (x ∷ xs) (suc i) = mapped_through f q xs i
 
 -- where the way lands at the value v, if there is a way and v is in range
 abbrev pub landed_by : Net → State → Option Way → ℤ → Option State
