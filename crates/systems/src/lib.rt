@@ -1,18 +1,18 @@
 #![tactic(auto)]
 
-ghost use Rattle.std.specs.Prelude.{◌≡◌, ◌≤◌, map, length, IfOk, Decides};
+ghost use Rattle.std.specs.Prelude.{◌≡◌, ◌++◌, map, length, OnOk};
 ghost use Rattle.systems.specs.Meaning.{Meaning, Step, Keeps, in_range_of, label_at, landing_at};
 ghost use Rattle.systems.specs.Listing.{listing, receives_in};
 ghost use Rattle.lists.specs.Words.{given};
 ghost use Rattle.model.specs.declared.state.State.{State};
 
-use crate::listed::Listed;
+use crate::listed::{Listed, add_listed};
 use model::group_set::GroupSet;
 use model::label::Label;
 use model::range::Range;
 use model::state::State;
 use model::value::Value;
-use std::alloc::{AllocError, Global};
+use std::alloc::AllocError;
 
 pub mod listed;
 
@@ -50,35 +50,28 @@ pub trait System {
     fn landing(&self, state: &State, step: u64, value: Value) -> Option<State>
         ensures { result ≡ landing_at (means self.now) state.now step value };
 
-    /// All steps of the state in one pass, each with its label and its landing at the value.
-    fn list(&self, heap: Global, state: &State, value: Value) -> Result<Vec<Listed>, AllocError>
-        ensures { IfOk result (λ v. v.items ≡ listing (means self.now) state.now value) }
+    /// Adds all steps of the state in one pass, each with its label and its landing at the value. A list that would get longer
+    /// than `MOST_LISTED` counts as want of memory.
+    fn list(&self, state: &State, value: Value, steps: &mut Vec<Listed>) -> Result<(), AllocError>
+        ensures { OnOk result (steps.new.items ≡ steps.old.items ++ listing (means self.now) state.now value) }
     {
-        let mut steps = Vec::new(heap);
-        // A step is asked for by its number, and the push may want memory.
+        // A step is asked for by its number, and to add it may want memory.
         for step in 0..self.step_count(state) {
             if let Some(label) = self.label(state, step) {
                 let landing = self.landing(state, step, value);
-                steps.push(Listed { label, landing })?;
+                add_listed(steps, Listed { label, landing })?;
             }
         }
-        Ok(steps)
+        Ok(())
     }
 
-    /// The receives among the steps of the state, in their order.
-    fn receives(&self, heap: Global, state: &State) -> Result<Vec<Self::Receive>, AllocError>
-        ensures { IfOk result (λ v. map (receive_by self.now state.now) v.items ≡ receives_in ((means self.now).steps state.now)) };
+    /// Adds the receives among the steps of the state, in their order.
+    fn receives(&self, state: &State, receives: &mut Vec<Self::Receive>) -> Result<(), AllocError>
+        ensures { OnOk result (map (receive_by self.now state.now) receives.new.items ≡ map (receive_by self.now state.now) receives.old.items ++ receives_in ((means self.now).steps state.now)) };
 
     /// Where a receive lands at a value, or none where the value is out of range.
     fn landing_by(&self, state: &State, receive: &Self::Receive, value: Value) -> Option<State>
         ensures { result ≡ given (in_range_of (means self.now) value) ((receive_by self.now state.now receive.now).landing value) };
-
-    /// Whether the state has at most so many steps. It may be told without counting them all.
-    fn is_short(&self, state: &State, most: u64) -> bool
-        ensures { Decides result (length ((means self.now).steps state.now) ≤ most) }
-    {
-        self.step_count(state) <= most
-    }
 
     ghost keeps: { (x : Self) → Keeps (means x) };
 }
