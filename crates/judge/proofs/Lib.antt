@@ -8,3 +8,5 @@ pub mod Listed
 pub mod Receiving
 pub mod Seen
 pub mod Matched
+pub mod Repeating
+pub mod Again

@@ -1,17 +1,19 @@
 -- What a match tells of both of its steps. Assumes nothing.
-use Rattle.std.proofs.Common.{get_or, ◌≡◌, ℕ, ◌<◌, List, length, Some, None, sym, refl, subst}
+use Rattle.std.proofs.Common.{◌≡◌, ℕ, List, Some, None, sym, refl, subst}
 use Rattle.std.proofs.Math.Bool.{Bool-set}
 use mathlib.Core.HLevel.{⊥_prop}
 use Rattle.std.proofs.Math.Logic.{∥∥₁_elim, ∥∥₁_map}
-use Rattle.std.specs.List.{All, HoldsAt, slice_get}
-use Rattle.lists.proofs.Places.{some_none}
+use Rattle.std.specs.List.{All, slice_get}
+use Rattle.std.proofs.lemmas.Option.{get_or_from_slice_get}
+use Rattle.lists.specs.Words.{Stands}
+use Rattle.lists.proofs.Places.{some_none, nth_within}
 use Rattle.questions.specs.declared.Side.{Side}
 use Rattle.questions.specs.declared.Side.TheVariants.{Left, Right}
 use Rattle.model.specs.declared.state.Pair.{Pair}
 use Rattle.judge.specs.Comparing.{Compared, OneRange, steps_on}
 use Rattle.judge.specs.Likeness.{Reply, Answered}
-use Rattle.judge.specs.Matching.{Matches}
-use Rattle.judge.specs.declared.matching.Match.{Match}
+use Rattle.judge.specs.Matching.{Replying, step_on}
+use Rattle.judge.specs.declared.matches.Match.{Match}
 use Rattle.judge.proofs.Tested.{decides_answered}
 
 -- a reply, told from the other side
@@ -28,18 +30,10 @@ module _ (c : Compared) (one : OneRange c) (p : Pair) where
         | Some x ↦ (λ at. let d = decides_answered c side one p i x at in d.0 (∥∥₁_elim known (Bool-set _ _) (λ a. d.1 a)))
       ] refl
 
-  -- a match whose number on the side is i, if the list has one
-  abbrev At : (Match → ℕ) → List Match → ℕ → Type 0
-  At number ms i = (k : ℕ) × (k < length ms) × HoldsAt (λ m. number m ≡ i) ms k
+  module _ (ms : List Match) (each : ∥ All (Replying c p) ms ∥₁) where
+    known_left : (k : ℕ) (m : Match) → Stands ms m k → ∥ Reply c Left p m.left m.right ∥₁
+    known_left k m at = ∥∥₁_map each (λ all. subst (λ (x : Match). Reply c Left p x.left x.right) (get_or_from_slice_get ms k m m at) (all k m (nth_within ms k m at)))
 
-  module _ (ms : List Match) (each : ∥ All (Matches c p) ms ∥₁) (i : ℕ) where
-    none_yet : Match
-    none_yet = record { left = 0; right = 0 }
-
-    pub left_matched : At (λ m. m.left) ms i → Answered c Left p i
-    left_matched f =
-        answered_known Left i (∥∥₁_map each (λ all. let m = get_or ms f.0 none_yet in (m.right, subst (λ n. Reply c Left p n m.right) (f.2 none_yet) (all f.0 none_yet f.1))))
-
-    pub right_matched : At (λ m. m.right) ms i → Answered c Right p i
-    right_matched f =
-        answered_known Right i (∥∥₁_map each (λ all. let m = get_or ms f.0 none_yet in (m.left, subst (λ n. Reply c Right p n m.left) (f.2 none_yet) (reply_turned c p m.left m.right (all f.0 none_yet f.1)))))
+    pub matched : (side : Side) (i k : ℕ) (m : Match) → Stands ms m k → step_on side m ≡ i → Answered c side p i
+    matched Left i k m at e = answered_known Left i (∥∥₁_map (known_left k m at) (λ r. (m.right, subst (λ n. Reply c Left p n m.right) e r)))
+    matched Right i k m at e = answered_known Right i (∥∥₁_map (known_left k m at) (λ r. (m.left, subst (λ n. Reply c Right p n m.left) e (reply_turned c p m.left m.right r))))

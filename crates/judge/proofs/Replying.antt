@@ -89,7 +89,7 @@ turned c p i j (Some b) h =
     (λ all v w. let l = all v w in record { own = l.other; other = l.own; own_at = l.other_at; other_at = l.own_at; held = l.held })
     h
 
-keeps_on : (c : Compared) → Keeps c.left → Keeps c.right → (side : Side) → Keeps (system_on side c)
+pub keeps_on : (c : Compared) → Keeps c.left → Keeps c.right → (side : Side) → Keeps (system_on side c)
 keeps_on c l r Left = l
 keeps_on c l r Right = r
 

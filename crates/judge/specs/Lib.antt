@@ -4,3 +4,5 @@ pub mod Replies
 pub mod Judged
 pub mod Receiving
 pub mod Matching
+pub mod Entering
+pub mod Firsts

@@ -8,7 +8,6 @@ ghost use Rattle.judge.specs.Likeness.{Holds, LandsAt, Reply, Answered, SeenAt};
 use crate::comparison::opposite;
 use crate::held::{Held, nth};
 use crate::index::{is_state, state_on};
-use crate::numbers::{state_fingerprint, step_fingerprint};
 use crate::reply::is_receive;
 use lookup::Exact;
 use model::state::{Pair, State};
@@ -19,9 +18,11 @@ use systems::listed::Listed;
 /// A held step of the pair's state on a side, to which the state on the opposite side is to reply.
 #[derive(Drop)]
 pub(crate) struct HeldStep<'a, L: System, R: System> {
-    pub(crate) held: &'a Held<'a, L, R>,
+    pub(crate) held: &'a Held<'a, 'a, L, R>,
     pub(crate) side: Side,
     pub(crate) step: usize,
+    /// The number of the state in which it lands.
+    pub(crate) landing: usize,
     pub(crate) listed: &'a Listed,
     ghost at: { Stands (listing_on side (meant L.System.means R.System.means held.now.between.now.comparison.now) held.now.pair.now held.now.lowest) listed.now step },
 }
@@ -52,10 +53,6 @@ fn are_landings(relation: &[Pair], side: Side, own: &Listed, other: &Listed, pla
 }
 
 impl<L: System, R: System> HeldStep<'_, L, R> {
-    pub(crate) fn is_receive(&self) -> bool {
-        is_receive(&self.listed.label)
-    }
-
     fn relation(&self) -> &[Pair]
         ensures { result.now ≡ self.now.held.now.between.now.comparison.now.relation.now }
     {
@@ -121,24 +118,22 @@ impl<L: System, R: System> HeldStep<'_, L, R> {
         ensures { IfSome result (λ j. Reply (meant L.System.means R.System.means self.now.held.now.between.now.comparison.now) self.now.side self.now.held.now.pair.now self.now.step j) }
     {
         let opposite = opposite(self.side);
-        let partner = self.held.index.on(opposite).entry(place)?;
-        let wanted = step_fingerprint(&self.listed.label, partner.fingerprint);
-        self.held.numbers(opposite).find(wanted, |reply| {
-            self.is_found_reply(reply, place).then_some(reply)
+        let landing = self.held.index.on(opposite).number_at(place)?;
+        self.held.firsts(opposite).find(landing, |first| {
+            let is_reply = first.label == self.listed.label
+                && self.is_found_reply(first.step, place);
+            is_reply.then_some(first.step)
         })
     }
 
-    /// A reply that is found by the fingerprints, if any is. What is found is a reply, but one may be overlooked.
+    /// A reply that is found by the numbers of the states, if any is. What is found is a reply, but one may be overlooked.
     pub(crate) fn finds_reply(&self) -> Option<usize>
         ensures { IfSome result (λ j. Reply (meant L.System.means R.System.means self.now.held.now.between.now.comparison.now) self.now.side self.now.held.now.pair.now self.now.step j) }
     {
-        let landing = self.listed.landing.as_ref()?;
-        self.held
-            .index
-            .on(self.side)
-            .find(state_fingerprint(landing), |place| {
-                self.finds_reply_at(place)
-            })
+        let states = self.held.index.on(self.side);
+        states
+            .records
+            .find(self.landing, |place| self.finds_reply_at(place))
     }
 
     /// Whether the step with that number on the opposite side has this one's label, and lands on the state.

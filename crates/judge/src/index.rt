@@ -2,19 +2,82 @@ ghost use Rattle.std.specs.Prelude.{◌≡◌, true, Decides};
 ghost use Rattle.judge.specs.Comparing.{state_on};
 ghost use Rattle.judge.specs.Likeness.{Holds};
 
+use crate::buckets::Buckets;
+use crate::fingerprints::{pair_fingerprint, state_fingerprint};
 use crate::held::nth;
-use crate::numbers::{Numbers, pair_fingerprint, state_fingerprint};
 use lookup::first_equal;
 use model::state::{Pair, State};
 use questions::Side;
 use std::alloc::{AllocError, Global};
 
+/// A number under a fingerprint.
+#[derive(Clone, Copy)]
+struct Fingerprinted {
+    fingerprint: u64,
+    number: usize,
+}
+
+/// The states that the records hold on one side. The number of a state is the place of the first record that holds it.
+// States of one fingerprint have one number, so a number is a hint: what is found by it is compared before it counts.
+#[derive(Drop)]
+pub(crate) struct States {
+    numbers: Buckets<Fingerprinted>,
+    /// The places of the records, by the numbers of their states.
+    pub(crate) records: Buckets<usize>,
+}
+
 /// The records of a relation by the states that they hold on either side, and by both.
 #[derive(Drop)]
 pub(crate) struct Index {
-    left: Numbers,
-    right: Numbers,
-    pairs: Numbers,
+    left: States,
+    right: States,
+    pairs: Buckets<Fingerprinted>,
+}
+
+impl States {
+    fn with_room(heap: Global, count: usize) -> Result<States, AllocError> {
+        Ok(States {
+            numbers: Buckets::with_room(heap, count.saturating_mul(2), count)?,
+            records: Buckets::with_room(heap, count, count)?,
+        })
+    }
+
+    fn number(&self, fingerprint: u64) -> Option<usize> {
+        let bucket = self.numbers.bucket(fingerprint);
+        self.numbers.find(bucket, |state| {
+            (state.fingerprint == fingerprint).then_some(state.number)
+        })
+    }
+
+    /// The number of a state; none where no record holds it.
+    pub(crate) fn number_of(&self, state: &State) -> Option<usize> {
+        self.number(state_fingerprint(state))
+    }
+
+    /// The number of the state that the record holds.
+    pub(crate) fn number_at(&self, place: usize) -> Option<usize> {
+        Some(self.records.entries().get(place)?.bucket)
+    }
+
+    /// Enters the next record.
+    fn enter(&mut self, place: usize, fingerprint: u64) -> Result<(), AllocError> {
+        let number = match self.number(fingerprint) {
+            Some(number) => number,
+            None => {
+                let bucket = self.numbers.bucket(fingerprint);
+                let number = place;
+                self.numbers.enter(
+                    bucket,
+                    Fingerprinted {
+                        fingerprint,
+                        number,
+                    },
+                )?;
+                number
+            }
+        };
+        self.records.enter(number, place)
+    }
 }
 
 /// The pair's state on that side.
@@ -54,22 +117,34 @@ impl Index {
     pub(crate) fn make(heap: Global, relation: &[Pair]) -> Result<Index, AllocError> {
         let count = relation.len();
         let mut index = Index {
-            left: Numbers::for_count(heap, count)?,
-            right: Numbers::for_count(heap, count)?,
-            pairs: Numbers::for_count(heap, count)?,
+            left: States::with_room(heap, count)?,
+            right: States::with_room(heap, count)?,
+            pairs: Buckets::with_room(heap, count.saturating_mul(2), count)?,
         };
-        for pair in relation {
-            let left = state_fingerprint(&pair.left);
-            let right = state_fingerprint(&pair.right);
-            index.left.enter(left)?;
-            index.right.enter(right)?;
-            index.pairs.enter(pair_fingerprint(left, right))?;
+        for (place, pair) in relation.iter().enumerate() {
+            index.enter(place, pair)?;
         }
         Ok(index)
     }
 
-    /// The records by their states on that side.
-    pub(crate) fn on(&self, side: Side) -> &Numbers {
+    /// Enters the next record.
+    fn enter(&mut self, place: usize, pair: &Pair) -> Result<(), AllocError> {
+        let left = state_fingerprint(&pair.left);
+        let right = state_fingerprint(&pair.right);
+        self.left.enter(place, left)?;
+        self.right.enter(place, right)?;
+        let fingerprint = pair_fingerprint(left, right);
+        self.pairs.enter(
+            self.pairs.bucket(fingerprint),
+            Fingerprinted {
+                fingerprint,
+                number: place,
+            },
+        )
+    }
+
+    /// The states on that side.
+    pub(crate) fn on(&self, side: Side) -> &States {
         match side {
             Side::Left => &self.left,
             Side::Right => &self.right,
@@ -85,8 +160,11 @@ impl Index {
             state_fingerprint(&pair.right),
         );
         self.pairs
-            .find(wanted, |number| {
-                is_record(relation, number, pair).then_some(number)
+            .find(self.pairs.bucket(wanted), |record| {
+                let number = record.number;
+                (record.fingerprint == wanted && is_record(relation, number, pair)).then_some(
+                    number,
+                )
             })
             .is_some()
     }

@@ -3,15 +3,19 @@
 #![tactic(auto)]
 
 pub mod aligned;
+mod buckets;
 pub mod comparison;
 pub mod fault;
+mod fingerprints;
+mod firsts;
 mod held;
 mod held_step;
 mod index;
+mod matches;
 mod matching;
-mod numbers;
 mod received;
 pub mod reply;
+mod room;
 mod steps;
 #[cfg(test)]
 mod tests;

@@ -1,103 +1,121 @@
-ghost use Rattle.std.specs.Prelude.{◌≡◌, true, IfOk, IfSome, Decides};
+ghost use Rattle.std.specs.Prelude.{◌≡◌, true, OnOk, IfSome, Decides};
 ghost use Rattle.std.specs.List.{All};
 ghost use Rattle.questions.specs.Asking.{first_no};
 ghost use Rattle.judge.specs.Comparing.{meant};
 ghost use Rattle.judge.specs.Likeness.{Answered};
-ghost use Rattle.judge.specs.Matching.{Matches};
+ghost use Rattle.judge.specs.Matching.{Replying};
 ghost use Rattle.judge.specs.Judged.{steps_asked};
 
 use crate::aligned::Aligned;
+use crate::buckets::Entry;
+use crate::firsts::First;
 use crate::held::Held;
-use crate::index::Index;
+use crate::matches::{Match, Matches};
+use crate::room::Room;
+use crate::steps::list_steps;
 use model::state::Pair;
 use questions::Side;
-use std::alloc::{AllocError, Global};
+use std::alloc::AllocError;
 use systems::System;
 
-/// A receive of the left state and a receive of the right state that reply to each other, by their numbers.
-#[derive(Clone, Copy)]
-pub(crate) struct Match {
-    left: usize,
-    right: usize,
-}
-
-/// A pair whose steps are held, with receives of its states that were found to reply to each other.
-// Each match is looked at once, at every value of the range, and answers for both of its steps.
+/// A pair whose steps are held, with those that were found to reply to each other.
+// Each match is looked at once, and answers for both of its steps.
 #[derive(Drop)]
-pub(crate) struct Matching<'a, L: System, R: System> {
-    pub(crate) held: Held<'a, L, R>,
-    matches: Vec<Match>,
-    ghost each: { ∥ All (Matches (meant L.System.means R.System.means held.between.now.comparison.now) held.pair.now) matches.items ∥₁ },
+pub(crate) struct Matching<'a, 'r, 'm, L: System, R: System> {
+    pub(crate) held: Held<'a, 'r, L, R>,
+    matches: &'m Matches,
+    ghost each: { ∥ All (Replying (meant L.System.means R.System.means held.between.now.comparison.now) held.pair.now) matches.now.found.items ∥₁ },
 }
 
-impl<L: System, R: System> Held<'_, L, R> {
-    /// The match of a receive of the left state, if one is found.
-    fn match_of(&self, left: usize) -> Option<Match>
-        ensures { IfSome result (λ m. Matches (meant L.System.means R.System.means self.now.between.now.comparison.now) self.now.pair.now m) }
+impl<L: System, R: System> Held<'_, '_, L, R> {
+    /// The match of a step of the left state, if one is found.
+    fn match_of(&self, first: &Entry<First>) -> Option<Match>
+        ensures { IfSome result (λ m. Replying (meant L.System.means R.System.means self.now.between.now.comparison.now) self.now.pair.now m) }
     {
-        let right = self.held_step(Side::Left, left)?.finds_reply()?;
+        let held_step = self.held_step(Side::Left, first)?;
+        let left = held_step.step;
+        let right = held_step.finds_reply()?;
         Some(Match { left, right })
     }
 
-    /// The matches of the receives of the left state.
-    fn matches(&self, heap: Global) -> Result<Vec<Match>, AllocError>
-        ensures { IfOk result (λ v. All (Matches (meant L.System.means R.System.means self.now.between.now.comparison.now) self.now.pair.now) v.items) }
+    /// Matches the steps of the left state, up to the first for which no reply is found.
+    fn match_steps(&self, matches: &mut Matches) -> Result<(), AllocError>
+        ensures { OnOk result (All (Replying (meant L.System.means R.System.means self.now.between.now.comparison.now) self.now.pair.now) matches.new.found.items) }
     {
-        let mut matches = Vec::new(heap);
-        for &left in self.left.receives() {
-            if let Some(found) = self.match_of(left) {
-                matches.push(found)?;
+        matches.clear(self.left.listed.len(), self.right.listed.len())?;
+        for first in self.firsts(Side::Left).entries() {
+            match self.match_of(first) {
+                Some(found) => matches.enter(found)?,
+                None => return Ok(()),
             }
         }
-        Ok(matches)
+        Ok(())
     }
 }
 
-impl<L: System, R: System> Matching<'_, L, R> {
+impl<L: System, R: System> Matching<'_, '_, '_, L, R> {
     /// Whether the step stands in a match.
     fn has_match(&self, side: Side, step: usize) -> bool
         ensures { result ≡ true → Answered (meant L.System.means R.System.means self.now.held.between.now.comparison.now) side self.now.held.pair.now step }
     {
-        match side {
-            Side::Left => self.matches.iter().any(|found| found.left == step),
-            Side::Right => self.matches.iter().any(|found| found.right == step),
-        }
+        self.matches.has(side, step)
     }
 
     /// Whether the step has a reply.
-    fn is_answered(&self, side: Side, step: u64) -> bool
-        ensures { Decides result (Answered (meant L.System.means R.System.means self.now.held.between.now.comparison.now) side self.now.held.pair.now step) }
+    fn is_answered(&self, side: Side, first: &Entry<First>) -> bool
+        ensures { Decides result (Answered (meant L.System.means R.System.means self.now.held.between.now.comparison.now) side self.now.held.pair.now first.now.item.step) }
     {
-        let step = step as usize;
-        match self.held.held_step(side, step) {
-            Some(held_step) => {
-                held_step.is_receive() && self.has_match(side, step) || held_step.is_answered()
-            }
+        if self.has_match(side, first.item.step) {
+            return true;
+        }
+        match self.held.held_step(side, first) {
+            Some(held_step) => held_step.is_answered(),
             None => false,
         }
     }
 
     /// The first step of the pair's state on the side that has no reply.
+    // A step that is an earlier one again is answered where that one is.
     pub(crate) fn first_without_reply(&self, side: Side) -> Option<u64>
         ensures { result ≡ first_no (steps_asked (meant L.System.means R.System.means self.now.held.between.now.comparison.now) side self.now.held.pair.now) }
     {
-        (0..self.held.count(side)).find(|&step| !self.is_answered(side, step))
+        for first in self.held.firsts(side).entries() {
+            if !self.is_answered(side, first) {
+                return Some(first.item.step as u64);
+            }
+        }
+        None
     }
 }
 
 impl<L: System, R: System> Aligned<'_, L, R> {
     /// The pair with the steps of both states; none where there are too many to hold, or memory is wanting.
-    pub(crate) fn matching<'a>(
+    pub(crate) fn matching<'a, 'r, 'm>(
         &'a self,
-        heap: Global,
-        index: &'a Index,
+        room: &'r mut Option<Room<L::Receive, R::Receive>>,
+        matches: &'m mut Matches,
         pair: &'a Pair,
-    ) -> Option<Matching<'a, L, R>>
+    ) -> Option<Matching<'a, 'r, 'm, L, R>>
         ensures between { IfSome result (λ x. x.held.between.now ≡ self.now) }
         ensures pair { IfSome result (λ x. x.held.pair.now ≡ pair.now) }
     {
-        let held = self.held(heap, index, pair)?;
-        let matches = held.matches(heap).ok()?;
+        let room = room.as_mut()?;
+        let (left, right) = (self.comparison.left, self.comparison.right);
+        let lowest = left.range().lo;
+        let states = room.index.on(Side::Left);
+        list_steps(&mut room.left, left, &pair.left, lowest, states).ok()?;
+        let states = room.index.on(Side::Right);
+        list_steps(&mut room.right, right, &pair.right, lowest, states).ok()?;
+        let room = &*room;
+        let held = Held {
+            between: self,
+            index: &room.index,
+            pair,
+            lowest,
+            left: &room.left,
+            right: &room.right,
+        };
+        held.match_steps(matches).ok()?;
         Some(Matching { held, matches })
     }
 }

@@ -13,7 +13,7 @@ use systems::System;
 /// Held receives of both states of the pair, by what the systems tell them by.
 #[derive(Drop)]
 struct Received<'a, L: System, R: System> {
-    held: &'a Held<'a, L, R>,
+    held: &'a Held<'a, 'a, L, R>,
     left_step: usize,
     right_step: usize,
     left: &'a L::Receive,
@@ -66,7 +66,7 @@ impl<L: System, R: System> Received<'_, L, R> {
     }
 }
 
-impl<L: System, R: System> Held<'_, L, R> {
+impl<L: System, R: System> Held<'_, '_, L, R> {
     /// Whether the receives with these numbers form records of the relation at every value; none where one of them is not
     /// held.
     pub(crate) fn form_records(&self, left_step: usize, right_step: usize) -> Option<bool>

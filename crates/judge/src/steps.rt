@@ -1,9 +1,13 @@
-ghost use Rattle.std.specs.Prelude.{◌≡◌, ℕ, IfOk, IfSome};
+ghost use Rattle.std.specs.Prelude.{◌≡◌, ℕ, [], length, OnOk, IfSome};
 ghost use Rattle.lists.specs.Words.{Stands};
 ghost use Rattle.systems.specs.Listing.{listing};
+ghost use Rattle.judge.specs.Entering.{entered};
+ghost use Rattle.judge.specs.Firsts.{Firsts};
 ghost use Rattle.judge.specs.Receiving.{receiving_from, Tell};
 
-use crate::numbers::{Numbers, state_fingerprint, step_fingerprint};
+use crate::buckets::Buckets;
+use crate::firsts::{First, add_firsts};
+use crate::index::States;
 use crate::reply::is_receive;
 use model::state::State;
 use model::value::Value;
@@ -11,67 +15,70 @@ use std::alloc::{AllocError, Global};
 use systems::System;
 use systems::listed::Listed;
 
-/// The steps of a state, listed at a value. The system tells each receive among them by a `W`.
+/// Room for the steps of a state, as they are listed at a value. The system tells each receive among them by a `W`.
 #[derive(Drop)]
 pub(crate) struct Steps<W> {
     pub(crate) listed: Vec<Listed>,
-    /// The steps by their labels and landings.
-    pub(crate) numbers: Numbers,
+    /// The steps that repeat no earlier one, by the numbers of the states in which they land.
+    pub(crate) firsts: Buckets<First>,
     /// The numbers of the receives, and what tells them, in one order.
     receiving: Vec<usize>,
     told_by: Vec<W>,
 }
 
-fn numbers_of(heap: Global, listed: &[Listed]) -> Result<Numbers, AllocError> {
-    let mut numbers = Numbers::for_count(heap, listed.len())?;
-    for step in listed {
-        let landing = match &step.landing {
-            Some(landing) => state_fingerprint(landing),
-            None => 0,
-        };
-        numbers.enter(step_fingerprint(&step.label, landing))?;
-    }
-    Ok(numbers)
-}
-
-/// The numbers of the receives.
-fn receiving(heap: Global, listed: &[Listed]) -> Result<Vec<usize>, AllocError>
-    ensures { IfOk result (λ v. v.items ≡ receiving_from 0 listed.now) }
+/// Adds the numbers of the receives.
+fn add_receiving(listed: &[Listed], receiving: &mut Vec<usize>) -> Result<(), AllocError>
+    requires { receiving.old.items ≡ [] }
+    ensures { OnOk result (receiving.new.items ≡ receiving_from 0 listed.now) }
 {
-    listed
-        .iter()
-        .enumerate()
-        .filter(|(_, step)| is_receive(&step.label))
-        .map(|(number, _)| number)
-        .collect(heap)
+    for (number, step) in listed.iter().enumerate() {
+        if is_receive(&step.label) {
+            receiving.push(number)?;
+        }
+    }
+    Ok(())
 }
 
-/// The steps of the state, listed at the value.
-pub(crate) fn steps_of<S: System>(
-    heap: Global,
+/// Lists the steps of the state at the value, in place of what was listed before.
+pub(crate) fn list_steps<S: System>(
+    steps: &mut Steps<S::Receive>,
     system: &S,
     state: &State,
     value: Value,
-) -> Result<Steps<S::Receive>, AllocError>
-    ensures listed { IfOk result (λ x. x.listed.items ≡ listing (S.System.means system.now) state.now value) }
-    ensures told { IfOk result (λ x. Tell ((S.System.means system.now).steps state.now) (S.System.receive_by system.now state.now) x.receiving.items x.told_by.items) }
+    states: &States,
+) -> Result<(), AllocError>
+    ensures listed { OnOk result (steps.new.listed.items ≡ listing (S.System.means system.now) state.now value) }
+    ensures told { OnOk result (Tell ((S.System.means system.now).steps state.now) (S.System.receive_by system.now state.now) steps.new.receiving.items steps.new.told_by.items) }
+    ensures firsts { OnOk result (Firsts steps.new.listed.items (length steps.new.listed.items) (entered steps.new.firsts)) }
 {
-    let listed = system.list(heap, state, value)?;
-    let numbers = numbers_of(heap, &listed)?;
-    let receiving = receiving(heap, &listed)?;
-    let told_by = system.receives(heap, state)?;
-    Ok(Steps {
-        listed,
-        numbers,
-        receiving,
-        told_by,
-    })
+    steps.clear();
+    system.list(state, value, &mut steps.listed)?;
+    add_firsts(&steps.listed, states, &mut steps.firsts)?;
+    add_receiving(&steps.listed, &mut steps.receiving)?;
+    system.receives(state, &mut steps.told_by)
 }
 
-impl<W> Steps<W> {
-    /// The numbers of the receives.
-    pub(crate) fn receives(&self) -> &[usize] {
-        &self.receiving
+impl<W: Drop> Steps<W> {
+    /// Room for steps that land in a relation of so many records.
+    pub(crate) fn with_room(heap: Global, records: usize) -> Result<Steps<W>, AllocError> {
+        Ok(Steps {
+            listed: Vec::new(heap),
+            firsts: Buckets::with_room(heap, records, 0)?,
+            receiving: Vec::new(heap),
+            told_by: Vec::new(heap),
+        })
+    }
+
+    fn clear(&mut self)
+        ensures listed { self.new.listed.items ≡ [] }
+        ensures firsts { entered self.new.firsts ≡ [] }
+        ensures receiving { self.new.receiving.items ≡ [] }
+        ensures told { self.new.told_by.items ≡ [] }
+    {
+        self.listed.clear();
+        self.firsts.clear();
+        self.receiving.clear();
+        self.told_by.clear();
     }
 
     /// What the system tells the receive with that number by.

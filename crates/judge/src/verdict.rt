@@ -7,8 +7,9 @@ ghost use Rattle.judge.specs.Judged.{steps_asked, pair_asked, judge_refusal, Jud
 use crate::aligned::Aligned;
 use crate::comparison::{Comparison, opposite};
 use crate::fault::Fault;
-use crate::index::Index;
+use crate::matches::Matches;
 use crate::matching::Matching;
+use crate::room::Room;
 use model::state::Pair;
 use questions::Side;
 use std::alloc::Global;
@@ -53,7 +54,7 @@ impl<L: System, R: System> Aligned<'_, L, R> {
     /// The same, by what is held of the pair, if anything is.
     fn first_unanswered(
         &self,
-        matching: &Option<Matching<'_, L, R>>,
+        matching: &Option<Matching<'_, '_, '_, L, R>>,
         side: Side,
         pair: &Pair,
     ) -> Option<u64>
@@ -67,13 +68,13 @@ impl<L: System, R: System> Aligned<'_, L, R> {
     }
 
     /// The questions to one record of the relation, whose number is `k`.
-    fn judge_pair<'a>(
-        &'a self,
-        heap: Global,
-        index: &'a Option<Index>,
+    fn judge_pair(
+        &self,
+        matching: &Option<Matching<'_, '_, '_, L, R>>,
         k: usize,
-        pair: &'a Pair,
+        pair: &Pair,
     ) -> Result<(), Fault>
+        requires { IfSome matching.now (λ x. (x.held.between.now ≡ self.now) × (x.held.pair.now ≡ pair.now)) }
         ensures { refusal_of judge_refusal result ≡ first_no (pair_asked (meant L.System.means R.System.means self.now.comparison.now) k pair.now) }
     {
         let Comparison { left, right, .. } = self.comparison;
@@ -86,17 +87,27 @@ impl<L: System, R: System> Aligned<'_, L, R> {
         if left.shown(&pair.left) != right.shown(&pair.right) {
             return Err(Fault::Shown { pair: k });
         }
-        let matching = match index {
-            Some(index) => self.matching(heap, index, pair),
-            None => None,
-        };
-        if let Some(step) = self.first_unanswered(&matching, Side::Left, pair) {
+        if let Some(step) = self.first_unanswered(matching, Side::Left, pair) {
             return Err(Fault::LeftStep { pair: k, step });
         }
-        if let Some(step) = self.first_unanswered(&matching, Side::Right, pair) {
+        if let Some(step) = self.first_unanswered(matching, Side::Right, pair) {
             return Err(Fault::RightStep { pair: k, step });
         }
         Ok(())
+    }
+
+    /// The same, with what can be held of the record.
+    fn judge_record<'x, 'r, 'm>(
+        &'x self,
+        room: &'r mut Option<Room<L::Receive, R::Receive>>,
+        matches: &'m mut Matches,
+        k: usize,
+        pair: &'x Pair,
+    ) -> Result<(), Fault>
+        ensures { refusal_of judge_refusal result ≡ first_no (pair_asked (meant L.System.means R.System.means self.now.comparison.now) k pair.now) }
+    {
+        let matching = self.matching(room, matches, pair);
+        self.judge_pair(&matching, k, pair)
     }
 }
 
@@ -119,9 +130,10 @@ pub fn judge<'a, L: System, R: System>(
     if relation.len() > MOST {
         return Err(Fault::TooMany);
     }
-    let index = Index::make(heap, relation).ok();
+    let mut room = Room::make(heap, relation).ok();
+    let mut matches = Matches::new(heap);
     for (k, pair) in relation.iter().enumerate() {
-        aligned.judge_pair(heap, &index, k, pair)?;
+        aligned.judge_record(&mut room, &mut matches, k, pair)?;
     }
     Ok(Pass {
         count: relation.len(),

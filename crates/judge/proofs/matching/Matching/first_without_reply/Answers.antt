@@ -1,18 +1,32 @@
-use Rattle.std.proofs.Common.{ℕ, subst, rules}
+use Rattle.std.proofs.Common.{ap, sym, ◌∙◌, map}
 use Rattle.std.proofs.lemmas.Bool.{false≢true}
+use Rattle.std.proofs.lemmas.Option.{slice_get-get_or}
 use Rattle.judge.specs.Comparing.{meant}
-use Rattle.judge.specs.Likeness.{Answered}
-use Rattle.judge.proofs.Listed.{first_unmet}
-use Rattle.judge.proofs.Finding.{first_found}
+use Rattle.judge.proofs.Again.{none_without, first_without, answered_more}
 use Rattle.judge.proofs.matching.Matching.first_without_reply.Goals as goal
+
+pub returns-then-not-is_answered : goal.returns-then-not-is_answered
+returns-then-not-is_answered g c =
+    let held = c.args.self.now.held in
+    let comparison = held.between.now.comparison.now in
+    let x = meant g.L.System.means g.R.System.means comparison in
+    let es = c.entries-first-items.result.now in
+    first_without x c.args.side held.pair.now held.lowest held.between.now.one_range (g.met.L.System.keeps comparison.left.now) (g.met.R.System.keeps comparison.right.now) held.low
+    _ c.firsts.ensures es (ap (map (λ e. e.item)) (sym c.entries-first-items.ensures)) c.loop-first.first-index _ (slice_get-get_or es c.loop-first.first-index _ c.loop-first-test.true) c.loop-first.invariant
+    (λ a. false≢true (sym c.if-not-is_answered.true ∙ c.is_answered.ensures.1 a))
+
+pub loop-first-preserved : goal.loop-first-preserved
+loop-first-preserved g c =
+    let held = c.args.self.now.held in
+    let x = meant g.L.System.means g.R.System.means held.between.now.comparison.now in
+    let es = c.entries-first-items.result.now in
+    answered_more x c.args.side held.pair.now es c.loop-first.first-index _ (slice_get-get_or es c.loop-first.first-index _ c.loop-first-test.true) c.loop-first.invariant (c.is_answered.ensures.0 c.if-not-is_answered.false)
 
 pub returns : goal.returns
 returns g c =
-    let own = c.args.self.now.held in
-    let between = own.between.now in
-    let x = meant g.L.System.means g.R.System.means between.comparison.now in
-    let side = c.args.side in
-    let pair = own.pair.now in
-    let lacks : ℕ → Type 0 = λ i. Answered x side pair i → ⊥ in
-    first_unmet x between.one_range side pair c.count.result c.find.result c.count.ensures
-    (first_found _ lacks (λ k q h. subst lacks h.shows (search (rules, false≢true))) (λ k q h. search (rules, false≢true)) c.count.result _ c.find.result c.find.ensures.ran)
+    let held = c.args.self.now.held in
+    let comparison = held.between.now.comparison.now in
+    let x = meant g.L.System.means g.R.System.means comparison in
+    let es = c.entries-first-items.result.now in
+    none_without x c.args.side held.pair.now held.lowest held.between.now.one_range (g.met.L.System.keeps comparison.left.now) (g.met.R.System.keeps comparison.right.now) held.low
+    _ c.firsts.ensures es (ap (map (λ e. e.item)) (sym c.entries-first-items.ensures)) c.loop-first.first-index c.loop-first-test.false c.loop-first.invariant

@@ -1,0 +1,9 @@
+use Rattle.judge.specs.Comparing.{meant}
+use Rattle.judge.proofs.Again.{AnsweredBelow}
+use Rattle.judge.proofs.matching.Matching.first_without_reply.Given as goal
+
+-- each step that was looked at has a reply
+abbrev pub invariant-loop-first : goal.invariant-loop-first
+invariant-loop-first g l =
+    let held = l.self.held in
+    AnsweredBelow (meant g.L.System.means g.R.System.means held.between.now.comparison.now) l.side held.pair.now l.first-items l.first-index
