@@ -1,5 +1,5 @@
 -- The landings of a step, from the way that it comes about by. Assumes nothing.
-use Rattle.std.proofs.Common.{◌≡◌, ℕ, zero, suc, Bool, cond, List, [], ◌∷◌, map, ℤ, None, Option, refl, ap, ◌∙◌}
+use Rattle.std.proofs.Common.{◌≡◌, ℕ, Bool, cond, List, ℤ, None, Option, ap, ◌∙◌}
 use Rattle.std.specs.List.{slice_get}
 use Rattle.lists.specs.Words.{through}
 use Rattle.lists.proofs.Mapped.{mapped_through}

@@ -2,6 +2,6 @@ pub mod Slots
 pub mod Sets
 pub mod Placed
 pub mod Landed
-pub mod Short
+pub mod Few
 pub mod Admitted
 pub mod Received

@@ -15,7 +15,7 @@ use model::state::State;
 use model::value::Value;
 use rules::rule::Rule;
 use std::alloc::{AllocError, Global};
-use systems::listed::Listed;
+use systems::listed::{Listed, add_listed};
 use ways::slots::unit_at;
 use ways::way::Way;
 
@@ -126,7 +126,7 @@ impl<R: Rule> Network<R> {
         self.movement_of(state, &placement, unit, left)
     }
 
-    // Loops, since each push may want memory.
+    // Loops, since to add may want memory.
     fn add_movements_of(
         &self,
         state: &State,
@@ -143,7 +143,7 @@ impl<R: Rule> Network<R> {
         for &bits in &self.sets {
             let set = GroupSet { bits };
             if self.may_move(state, placement, unit, set) {
-                steps.push(self.table.listed_movement(state, unit, set, value))?;
+                add_listed(steps, self.table.listed_movement(state, unit, set, value))?;
             }
         }
         Ok(())

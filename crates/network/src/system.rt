@@ -1,11 +1,11 @@
-ghost use Rattle.std.specs.Prelude.{◌≡◌, ◌≤◌, true, cond, map, length, IfOk, None, Decides};
+ghost use Rattle.std.specs.Prelude.{◌≡◌, true, cond, IfOk, None};
 ghost use Rattle.std.specs.List.{slice_get};
 ghost use Rattle.lists.specs.Words.{through};
 ghost use Rattle.model.specs.Ranges.{in_range};
-ghost use Rattle.ways.specs.Landings.{landing_of, listed_of};
+ghost use Rattle.ways.specs.Landings.{landing_of};
 ghost use Rattle.ways.specs.Nets.{net_of};
 ghost use Rattle.ways.specs.Receivings.{received_by};
-ghost use Rattle.network.specs.Meanings.{lawful, movements, ways, lawful_ways, network_meaning};
+ghost use Rattle.network.specs.Meanings.{lawful, ways, lawful_ways, network_meaning};
 ghost use Rattle.network.specs.Steps;
 
 use crate::lawful::union_shown;
@@ -21,9 +21,6 @@ use systems::System;
 use systems::listed::Listed;
 use ways::receiving::Receiving;
 use ways::way::Way;
-
-/// Room for as many steps as a state often has; a longer list grows.
-const USUAL_STEPS: usize = 32;
 
 impl<R: Rule> Network<R> {
     fn any_way(&self, state: &State, number: usize) -> Option<Way>
@@ -73,30 +70,6 @@ impl<R: Rule> Network<R> {
         let way = way?;
         Some(self.table.landing_of(state, &way, value))
     }
-
-    /// All steps, as they are listed at the value.
-    fn list_lawful(
-        &self,
-        heap: Global,
-        state: &State,
-        value: Value,
-    ) -> Result<Vec<Listed>, AllocError>
-        requires { lawful (net_of self.now.table) (R.Rule.allowed self.now.rule) state.now ≡ true }
-        ensures { IfOk result (λ v. v.items ≡ map (listed_of (net_of self.now.table) state.now value) (ways (net_of self.now.table) (R.Rule.allowed self.now.rule) state.now)) }
-    {
-        let mut steps = Vec::with_capacity(heap, USUAL_STEPS)?;
-        self.add_movements(state, value, &mut steps)?;
-        self.table.add_acts(state, value, &mut steps)?;
-        Ok(steps)
-    }
-
-    /// Whether there are at most so many movements. They are counted only where that many are possible.
-    fn movements_fit(&self, state: &State, room: u64) -> bool
-        requires { lawful (net_of self.now.table) (R.Rule.allowed self.now.rule) state.now ≡ true }
-        ensures { Decides result (length (movements (net_of self.now.table) (R.Rule.allowed self.now.rule) state.now) ≤ room) }
-    {
-        room >= 6 * 256 || self.movement_count(state) as u64 <= room
-    }
 }
 
 impl<R: Rule> System for Network<R> {
@@ -142,32 +115,24 @@ impl<R: Rule> System for Network<R> {
         self.landing_of(state, self.way(state, step as usize), value)
     }
 
-    fn list(&self, heap: Global, state: &State, value: Value) -> Result<Vec<Listed>, AllocError> {
-        if self.is_state_lawful(state) {
-            self.list_lawful(heap, state, value)
-        } else {
-            Ok(Vec::new(heap))
+    // Whether the state is lawful is asked once for all steps.
+    fn list(&self, state: &State, value: Value, steps: &mut Vec<Listed>) -> Result<(), AllocError> {
+        if !self.is_state_lawful(state) {
+            return Ok(());
         }
+        self.add_movements(state, value, steps)?;
+        self.table.add_acts(state, value, steps)
     }
 
-    fn receives(&self, heap: Global, state: &State) -> Result<Vec<Receiving>, AllocError> {
+    fn receives(&self, state: &State, receives: &mut Vec<Receiving>) -> Result<(), AllocError> {
         if self.is_state_lawful(state) {
-            self.table.receivings(heap, state)
+            self.table.add_receivings(state, receives)
         } else {
-            Ok(Vec::new(heap))
+            Ok(())
         }
     }
 
     fn landing_by(&self, state: &State, receive: &Receiving, value: Value) -> Option<State> {
         self.table.received(state, receive, value)
-    }
-
-    // Movements are few, so mostly the rows alone tell.
-    fn is_short(&self, state: &State, most: u64) -> bool {
-        if !self.is_state_lawful(state) {
-            return true;
-        }
-        let acts = self.table.act_count(state) as u64;
-        acts <= most && self.movements_fit(state, most - acts)
     }
 }

@@ -75,7 +75,9 @@ fn broadcast_on_a_free_group(rt: HostRuntime) -> Result<(), Fail> {
     assert_eq!(rt; net.step_count(&state), 1);
     assert!(rt; is_step(&net, &state, 0, SENT, 2, &one(unit(1, 0, 1))));
     assert!(rt; net.landing(&state, 0, 3).is_none());
-    assert_eq!(rt; net.list(rt.alloc(), &state, 0)?.len(), 1);
+    let mut steps = Vec::new(rt.alloc());
+    net.list(&state, 0, &mut steps)?;
+    assert_eq!(rt; steps.len(), 1);
     Ok(())
 }
 

@@ -1,4 +1,4 @@
-ghost use Rattle.std.specs.Prelude.{◌≡◌, map, length, filter, IfOk};
+ghost use Rattle.std.specs.Prelude.{◌≡◌, ◌++◌, map, length, filter, OnOk};
 ghost use Rattle.systems.specs.Meaning.{receives};
 ghost use Rattle.std.specs.List.{slice_get};
 ghost use Rattle.sheet.specs.States.{number_of};
@@ -11,8 +11,8 @@ use model::label::Label;
 use model::range::Range;
 use model::state::State;
 use model::value::Value;
-use std::alloc::{AllocError, Global};
-use systems::listed::Listed;
+use std::alloc::AllocError;
+use systems::listed::{Listed, add_listed};
 
 impl Row {
     pub(crate) fn label(&self) -> Label
@@ -83,31 +83,34 @@ fn row_from(rows: &[Row], number: u8, step: u64) -> Option<Row>
         .copied()
 }
 
-/// The rows to receive from the state with the number.
-fn receiving_from(heap: Global, rows: &[Row], number: u8) -> Result<Vec<Row>, AllocError>
-    ensures { IfOk result (λ v. v.items ≡ filter (λ r. receives (step_of r).label) (rows_from number rows.now)) }
+/// Adds the rows to receive from the state with the number.
+fn add_receiving_from(rows: &[Row], number: u8, found: &mut Vec<Row>) -> Result<(), AllocError>
+    ensures { OnOk result (found.new.items ≡ found.old.items ++ filter (λ r. receives (step_of r).label) (rows_from number rows.now)) }
 {
-    rows.iter()
-        .filter(|row| row.from == number)
-        .filter(|row| row.is_receive())
-        .copied()
-        .collect(heap)
+    for row in rows {
+        if row.from == number && row.is_receive() {
+            found.push(*row)?;
+        }
+    }
+    Ok(())
 }
 
-/// The rows from the state with the number, as a sheet of the range lists them at the value.
-fn list_from(
-    heap: Global,
+/// Adds the rows from the state with the number, as a sheet of the range lists them at the value.
+fn add_listed_from(
     rows: &[Row],
     number: u8,
     range: &Range,
     value: Value,
-) -> Result<Vec<Listed>, AllocError>
-    ensures { IfOk result (λ v. v.items ≡ map (listed_row range.now.lo range.now.hi value) (rows_from number rows.now)) }
+    steps: &mut Vec<Listed>,
+) -> Result<(), AllocError>
+    ensures { OnOk result (steps.new.items ≡ steps.old.items ++ map (listed_row range.now.lo range.now.hi value) (rows_from number rows.now)) }
 {
-    rows.iter()
-        .filter(|row| row.from == number)
-        .map(|row| row.listed(range, value))
-        .collect(heap)
+    for row in rows {
+        if row.from == number {
+            add_listed(steps, row.listed(range, value))?;
+        }
+    }
+    Ok(())
 }
 
 impl Sheet {
@@ -130,22 +133,26 @@ impl Sheet {
         }
     }
 
-    /// The rows to receive from a lawful state.
-    pub(crate) fn receiving_rows(&self, heap: Global, state: &State) -> Result<Vec<Row>, AllocError>
-        ensures { IfOk result (λ v. v.items ≡ filter (λ r. receives (step_of r).label) (rows_from (number_of state.now) self.now.rows.items)) }
+    /// Adds the rows to receive from a lawful state.
+    pub(crate) fn add_receiving(
+        &self,
+        state: &State,
+        found: &mut Vec<Row>,
+    ) -> Result<(), AllocError>
+        ensures { OnOk result (found.new.items ≡ found.old.items ++ filter (λ r. receives (step_of r).label) (rows_from (number_of state.now) self.now.rows.items)) }
     {
-        receiving_from(heap, &self.rows, number_of(state))
+        add_receiving_from(&self.rows, number_of(state), found)
     }
 
-    /// The steps of a lawful state, listed at the value.
-    pub(crate) fn list_rows(
+    /// Adds the steps of a lawful state, listed at the value.
+    pub(crate) fn add_rows(
         &self,
-        heap: Global,
         state: &State,
         value: Value,
-    ) -> Result<Vec<Listed>, AllocError>
-        ensures { IfOk result (λ v. v.items ≡ map (listed_row self.now.range.lo self.now.range.hi value) (rows_from (number_of state.now) self.now.rows.items)) }
+        steps: &mut Vec<Listed>,
+    ) -> Result<(), AllocError>
+        ensures { OnOk result (steps.new.items ≡ steps.old.items ++ map (listed_row self.now.range.lo self.now.range.hi value) (rows_from (number_of state.now) self.now.rows.items)) }
     {
-        list_from(heap, &self.rows, number_of(state), &self.range, value)
+        add_listed_from(&self.rows, number_of(state), &self.range, value, steps)
     }
 }

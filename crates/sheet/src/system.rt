@@ -9,7 +9,7 @@ use model::label::Label;
 use model::range::Range;
 use model::state::State;
 use model::value::Value;
-use std::alloc::{AllocError, Global};
+use std::alloc::AllocError;
 use systems::System;
 use systems::listed::Listed;
 
@@ -57,19 +57,19 @@ impl System for Sheet {
         Some(self.row(state, step)?.landing(value))
     }
 
-    fn list(&self, heap: Global, state: &State, value: Value) -> Result<Vec<Listed>, AllocError> {
+    fn list(&self, state: &State, value: Value, steps: &mut Vec<Listed>) -> Result<(), AllocError> {
         if is_lawful(state) {
-            self.list_rows(heap, state, value)
+            self.add_rows(state, value, steps)
         } else {
-            Ok(Vec::new(heap))
+            Ok(())
         }
     }
 
-    fn receives(&self, heap: Global, state: &State) -> Result<Vec<Row>, AllocError> {
+    fn receives(&self, state: &State, receives: &mut Vec<Row>) -> Result<(), AllocError> {
         if is_lawful(state) {
-            self.receiving_rows(heap, state)
+            self.add_receiving(state, receives)
         } else {
-            Ok(Vec::new(heap))
+            Ok(())
         }
     }
 

@@ -49,7 +49,9 @@ fn three_receives_land(rt: HostRuntime) -> Result<(), Fail> {
     }
     assert!(rt; sheet.landing(&state_at(0), 0, 3).is_none());
     assert!(rt; sheet.landing(&state_at(0), 3, 0).is_none());
-    assert_eq!(rt; sheet.list(rt.alloc(), &state_at(0), 0)?.len(), 3);
+    let mut steps = Vec::new(rt.alloc());
+    sheet.list(&state_at(0), 0, &mut steps)?;
+    assert_eq!(rt; steps.len(), 3);
     Ok(())
 }
 

@@ -1,8 +1,7 @@
 -- Systems whose steps are made of ways: the steps of a state are `map f ws`, where ws are its ways, of any type, and f makes a
 -- step of a way. Assumes nothing.
-use Rattle.std.proofs.Common.{◌≡◌, ℕ, zero, suc, Bool, true, false, cond, List, [], ◌∷◌, map, ℤ, IfOk, Result, sym, refl, ap, ◌∙◌}
+use Rattle.std.proofs.Common.{◌≡◌, ℕ, zero, suc, Bool, true, false, cond, List, [], ◌∷◌, map, ℤ, sym, refl, ap, ◌∙◌}
 use mathlib.Core.List.{map-map}
-use Rattle.std.proofs.lemmas.Result.{IfOk-weaker}
 use Rattle.lists.specs.Words.{given, Stands}
 use Rattle.lists.proofs.Places.{some_none}
 use Rattle.model.specs.Ranges.{in_range}
@@ -24,11 +23,9 @@ module _ {W : Type 0} (f : W → Step) (ws : List W) where
       ap (λ y. y.landing v) s ∙ alike p.0 p.1 (ap (λ y. receives y.label) (sym s) ∙ r) v u ∙ ap (λ y. y.landing u) (sym s)
 
   -- what is listed of the ways is what is listed of the steps; v is the value, which the code passes on as u
-  pub list_ways : {V E : Type 0} (items : V → List Listed) (r : Result V E) (lo hi v u : ℤ) (b : Bool) → u ≡ v → true ≡ b
-      → IfOk r (λ x. items x ≡ map (λ w. record { label = (f w).label; landing = given (in_range lo hi u) ((f w).landing u) }) ws)
-      → IfOk r (λ x. items x ≡ map (λ y. record { label = y.label; landing = given (in_range lo hi v) (y.landing v) }) (map f (cond b ws [])))
-  list_ways items r lo hi v u b same t m =
+  pub list_ways : (lo hi v u : ℤ) (b : Bool) → u ≡ v → true ≡ b
+      → map {B = Listed} (λ w. record { label = (f w).label; landing = given (in_range lo hi u) ((f w).landing u) }) ws
+      ≡ map {B = Listed} (λ y. record { label = y.label; landing = given (in_range lo hi v) (y.landing v) }) (map f (cond b ws []))
+  list_ways lo hi v u b same t =
       let listed : ℤ → Step → Listed = λ z y. record { label = y.label; landing = given (in_range lo hi z) (y.landing z) } in
-      let all : map (λ w. listed u (f w)) ws ≡ map (listed v) (map f (cond b ws [])) =
-      sym (map-map (listed u) f ws) ∙ ap (λ z. map (listed z) (map f ws)) same ∙ ap (λ c. map (listed v) (map f (cond c ws []))) t in
-      IfOk-weaker r _ _ (λ x h. h ∙ all) m
+      sym (map-map (listed u) f ws) ∙ ap (λ z. map (listed z) (map f ws)) same ∙ ap (λ c. map (listed v) (map f (cond c ws []))) t

@@ -14,7 +14,7 @@ use model::state::State;
 use model::unit_state::{UNITS, UnitState};
 use model::value::Value;
 use std::alloc::AllocError;
-use systems::listed::Listed;
+use systems::listed::{Listed, add_listed};
 
 /// The step that lands with this unit in the slot.
 fn placing(listed: Listed, slot: usize, unit: UnitState) -> Listed
@@ -41,7 +41,8 @@ fn add_copies(
     ensures { OnOk result (steps.new.items ≡ steps.old.items ++ map (placing slot unit) (slice_range steps.old.items from to)) }
 {
     for number in from..to {
-        steps.push(placing(steps[number], slot, unit))?;
+        let step = placing(steps[number], slot, unit);
+        add_listed(steps, step)?;
     }
     Ok(())
 }
@@ -107,7 +108,7 @@ impl Table {
     {
         let from = steps.len();
         let sent = incoming(&unit_at(state, sender), self.row(row).action, value);
-        steps.push(self.listed_alone(state, sender, row, value))?;
+        add_listed(steps, self.listed_alone(state, sender, row, value))?;
         for slot in (0..UNITS).rev() {
             self.add_chosen(state, sender, slot, sent, from, steps)?;
         }

@@ -13,9 +13,9 @@ use model::state::State;
 use model::value::Value;
 use rows::row::Action;
 use std::alloc::AllocError;
-use systems::listed::Listed;
+use systems::listed::{Listed, add_listed};
 
-// Loops, since each push may want memory; a number is itself what is asked for.
+// Loops, since to add may want memory; a number is itself what is asked for.
 impl Table {
     fn add_acts_by(
         &self,
@@ -35,7 +35,7 @@ impl Table {
             return self.add_combinations(state, unit, row, value, steps);
         }
         if self.action_count(state, unit, taken.action) > 0 {
-            steps.push(self.listed_alone(state, unit, row, value))?;
+            add_listed(steps, self.listed_alone(state, unit, row, value))?;
         }
         Ok(())
     }

@@ -1,17 +1,17 @@
-ghost use Rattle.std.specs.Prelude.{◌≡◌, ◌++◌, map, IfOk, OnOk};
+ghost use Rattle.std.specs.Prelude.{◌≡◌, ◌++◌, map, OnOk};
 ghost use Rattle.lists.specs.Words.{given};
 ghost use Rattle.model.specs.Ranges.{in_range};
 ghost use Rattle.systems.specs.Listing.{receives_in};
 ghost use Rattle.ways.specs.Nets.{net_of};
 ghost use Rattle.ways.specs.Ways.{acts};
 ghost use Rattle.ways.specs.Landings.{step_of};
-ghost use Rattle.ways.specs.Receivings.{received_by, receivings_of};
+ghost use Rattle.ways.specs.Receivings.{received_by, receivings_of, receivings};
 
 use crate::slots::unit_at;
 use crate::table::Table;
 use model::state::State;
 use model::value::Value;
-use std::alloc::{AllocError, Global};
+use std::alloc::AllocError;
 
 /// A receive from outside: the unit takes the row, and the others stay.
 #[derive(Clone, Copy)]
@@ -26,9 +26,9 @@ impl Table {
         &self,
         state: &State,
         unit: usize,
-        receivings: &mut Vec<Receiving>,
+        found: &mut Vec<Receiving>,
     ) -> Result<(), AllocError>
-        ensures { OnOk result (receivings.new.items ≡ receivings.old.items ++ receivings_of (net_of self.now) state.now unit) }
+        ensures { OnOk result (found.new.items ≡ found.old.items ++ receivings_of (net_of self.now) state.now unit) }
     {
         let heard = unit_at(state, unit).groups.part_within(self.free);
         if heard.is_empty() {
@@ -36,21 +36,25 @@ impl Table {
         }
         for row in 0..self.program.rows.len() {
             if self.is_receivable(state, unit, row) {
-                receivings.push(Receiving { unit, row })?;
+                found.push(Receiving { unit, row })?;
             }
         }
         Ok(())
     }
 
-    /// The receives among the steps in which units take rows, in their order.
-    pub fn receivings(&self, heap: Global, state: &State) -> Result<Vec<Receiving>, AllocError>
-        ensures { IfOk result (λ v. map (received_by (net_of self.now) state.now) v.items ≡ receives_in (map (step_of (net_of self.now) state.now) (acts (net_of self.now) state.now))) }
+    /// Adds the receives among the steps in which units take rows, in their order.
+    pub fn add_receivings(
+        &self,
+        state: &State,
+        found: &mut Vec<Receiving>,
+    ) -> Result<(), AllocError>
+        ensures adds { OnOk result (found.new.items ≡ found.old.items ++ receivings (net_of self.now) state.now) }
+        ensures told { OnOk result (map (received_by (net_of self.now) state.now) found.new.items ≡ map (received_by (net_of self.now) state.now) found.old.items ++ receives_in (map (step_of (net_of self.now) state.now) (acts (net_of self.now) state.now))) }
     {
-        let mut receivings = Vec::new(heap);
         for unit in 0..self.units {
-            self.add_receivings_of(state, unit, &mut receivings)?;
+            self.add_receivings_of(state, unit, found)?;
         }
-        Ok(receivings)
+        Ok(())
     }
 
     /// Where a receive lands for a value, or none where the value is out of range.

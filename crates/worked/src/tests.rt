@@ -34,7 +34,8 @@ fn lists<S: System>(
     steps: &[Step],
     value: Value,
 ) -> Result<bool, Fail> {
-    let listed = system.list(heap, state, value)?;
+    let mut listed = Vec::new(heap);
+    system.list(state, value, &mut listed)?;
     let alike = steps.iter().zip(listed.iter()).all(|(step, listed)| {
         listed.label == step.label && listed.landing == Some(step.landing.at(value))
     });

@@ -1,4 +1,5 @@
 use Rattle.std.proofs.Common.{◌<◌, length, vec_items, arith}
+use Rattle.std.proofs.lemmas.Result.{IfOk-at_ok}
 use Rattle.ways.specs.Copies.{placing}
 use Rattle.ways.proofs.Copied.{copied_more}
 use Rattle.ways.proofs.copies.add_copies.Goals as goal
@@ -6,4 +7,4 @@ use Rattle.ways.proofs.copies.add_copies.Goals as goal
 pub loop-number-preserved : goal.loop-number-preserved
 loop-number-preserved c =
     let there : c.loop-number.number < length (vec_items c.args.steps.now) = omega arith in
-    copied_more (placing c.args.slot c.args.unit) _ _ _ _ c.loop-number.invariant _ _ _ c.loop-number.auto.number there c.index.ensures c.placing.ensures c.in_ok-push.ensures.items
+    copied_more (placing c.args.slot c.args.unit) _ _ _ _ c.loop-number.invariant _ _ _ c.loop-number.auto.number there c.index.ensures c.placing-step.ensures (IfOk-at_ok _ c.in_ok-add_listed.was c.add_listed.ensures.adds)

@@ -2,6 +2,7 @@ use Rattle.std.proofs.Common.{ℕ, ◌++◌, ◌∷◌, [], map, filter, get_or,
 use mathlib.Core.List.{map-map}
 use Rattle.std.proofs.lemmas.Int.{to_z-of_z}
 use Rattle.std.proofs.lemmas.List.{take_all, take_more}
+use Rattle.std.proofs.lemmas.Result.{IfOk-at_ok}
 use Rattle.lists.proofs.Adding.{taking_yes, taking_no}
 use Rattle.ways.specs.Nets.{net_of}
 use Rattle.ways.specs.Landings.{listed_of}
@@ -9,7 +10,7 @@ use Rattle.ways.specs.declared.way.Way.TheVariants.{Move}
 use Rattle.network.specs.Meanings.{set_numbers, may_move, set_of}
 use Rattle.network.proofs.Admitted.{moves_admitted}
 use Rattle.network.proofs.network.Network.add_movements_of.Goals as goal
-use Rattle.network.proofs.network.Network.add_movements_of.Goals.{then-may_move+in_ok-push, else-may_move}
+use Rattle.network.proofs.network.Network.add_movements_of.Goals.{then-may_move+in_ok-add_listed, else-may_move}
 
 pub loop-bits-preserved : goal.loop-bits-preserved
 loop-bits-preserved g c =
@@ -22,10 +23,10 @@ loop-bits-preserved g c =
     let b = get_or bs c.loop-bits.bits-index 0 in
     let at = take_more bs c.loop-bits.bits-index 0 c.loop-bits-test.true in
     elim c.if-may_move.branch [
-      | then-may_move+in_ok-push w ↦
+      | then-may_move+in_ok-add_listed w ↦
           ap vec_items w.steps-is
           ∙ taking_yes may list bs c.loop-bits.bits-index b at (vec_items c.args.steps.now) (vec_items c.loop-bits.steps) c.loop-bits.invariant _ (sym (w.if-may_move.ensures c.requires.unit))
-          (w.in_ok-push.ensures.items ∙ ap (λ x. vec_items c.loop-bits.steps ++ x ∷ []) w.listed_movement.ensures)
+          (IfOk-at_ok _ w.in_ok-add_listed.was w.add_listed.ensures.adds ∙ ap (λ x. vec_items c.loop-bits.steps ++ x ∷ []) w.listed_movement.ensures)
       | else-may_move w ↦ ap vec_items w.steps-is ∙ taking_no may list bs c.loop-bits.bits-index b at (vec_items c.args.steps.now) (vec_items c.loop-bits.steps) c.loop-bits.invariant (sym (w.if-may_move.ensures c.requires.unit))
     ]
 

@@ -2,7 +2,7 @@ use Rattle.std.proofs.Common.{◌≡◌, length, ap, ◌∙◌, arith}
 use Rattle.std.specs.List.{range_with_len, flat_map}
 use Rattle.ways.specs.Nets.{net_of}
 use Rattle.network.specs.Meanings.{movements_of}
-use Rattle.network.proofs.Short.{few_of, joined_length, few_joined}
+use Rattle.network.proofs.Few.{few_of, joined_length, few_joined}
 use Rattle.network.proofs.network.Network.movement_count.Goals as goal
 
 pub loop-unit-preserved : goal.loop-unit-preserved

@@ -1,8 +1,9 @@
-use Rattle.std.proofs.Common.{cond, [], map, ap, ◌∙◌}
-use Rattle.std.proofs.lemmas.Result.{IfOk-weaker}
+use Rattle.std.proofs.Common.{cond, [], ◌++◌, map, vec_items, ap, ◌∙◌}
+use Rattle.std.proofs.lemmas.Result.{IfOk-equal}
 use Rattle.systems.specs.Listing.{receives_in}
 use Rattle.ways.specs.Landings.{step_of}
 use Rattle.ways.specs.Nets.{net_of}
+use Rattle.ways.specs.Receivings.{received_by}
 use Rattle.network.specs.Meanings.{ways}
 use Rattle.network.proofs.Received.{no_movement_received}
 use Rattle.network.proofs.system.NetworkSystem.receives.Goals as goal
@@ -12,6 +13,6 @@ returns-then-is_state_lawful g c =
     let n = net_of c.args.self.now.table in
     let s = c.args.state.now in
     let allowed = g.R.Rule.allowed c.args.self.now.rule in
-    IfOk-weaker c.receivings.result _ _
-    (λ v h. h ∙ no_movement_received n allowed s ∙ ap (λ b. receives_in (map (step_of n s) (cond b (ways n allowed s) []))) c.if-is_state_lawful.ensures)
-    c.receivings.ensures
+    let told = map (received_by n s) (vec_items c.args.receives.now) in
+    IfOk-equal c.add_receivings.result _ _ _ c.add_receivings.ensures.told
+    (ap (λ xs. told ++ xs) (no_movement_received n allowed s ∙ ap (λ b. receives_in (map (step_of n s) (cond b (ways n allowed s) []))) c.if-is_state_lawful.ensures))

@@ -1,5 +1,6 @@
-use Rattle.std.proofs.Common.{vec_items, w8}
+use Rattle.std.proofs.Common.{◌++◌, vec_items, ap, w8}
 use Rattle.std.proofs.lemmas.Int.{to_z-of_z}
+use Rattle.std.proofs.lemmas.Result.{IfOk-equal}
 use Rattle.systems.proofs.Ways.{list_ways}
 use Rattle.sheet.specs.States.{number_of}
 use Rattle.sheet.specs.Meaning.{step_of, rows_from}
@@ -8,4 +9,5 @@ use Rattle.sheet.proofs.system.SheetSystem.list.Goals as goal
 pub returns-then-is_lawful : goal.returns-then-is_lawful
 returns-then-is_lawful c =
     let rows = rows_from (number_of c.args.state.now) (vec_items c.args.self.now.rows) in
-    list_ways step_of rows vec_items c.list_rows.result c.args.self.now.range.lo c.args.self.now.range.hi c.args.value _ _ (to_z-of_z w8 c.args.value c.ranges.value) c.if-is_lawful.ensures.is c.list_rows.ensures
+    IfOk-equal c.add_rows.result _ _ _ c.add_rows.ensures
+    (ap (λ ls. vec_items c.args.steps.now ++ ls) (list_ways step_of rows c.args.self.now.range.lo c.args.self.now.range.hi c.args.value _ _ (to_z-of_z w8 c.args.value c.ranges.value) c.if-is_lawful.ensures.is))

@@ -1,4 +1,5 @@
-use Rattle.std.proofs.Common.{cond, [], map, vec_items, sym, ap, ◌∙◌}
+use Rattle.std.proofs.Common.{cond, [], ◌++◌, map, filter, vec_items, sym, ap, ◌∙◌}
+use Rattle.std.proofs.lemmas.List.{map-append}
 use Rattle.std.proofs.lemmas.Result.{IfOk-weaker}
 use Rattle.lists.proofs.Mapped.{mapped_kept}
 use Rattle.systems.specs.Meaning.{receives}
@@ -10,6 +11,8 @@ use Rattle.sheet.proofs.system.SheetSystem.receives.Goals as goal
 pub returns-then-is_lawful : goal.returns-then-is_lawful
 returns-then-is_lawful c =
     let rows = rows_from (number_of c.args.state.now) (vec_items c.args.self.now.rows) in
-    IfOk-weaker c.receiving_rows.result _ _
-    (λ v h. ap (map step_of) h ∙ sym (mapped_kept step_of (λ x. receives x.label) rows) ∙ ap (λ b. receives_in (map step_of (cond b rows []))) c.if-is_lawful.ensures.is)
-    c.receiving_rows.ensures
+    let was = vec_items c.args.receives.now in
+    let told = sym (mapped_kept step_of (λ x. receives x.label) rows) ∙ ap (λ b. receives_in (map step_of (cond b rows []))) c.if-is_lawful.ensures.is in
+    IfOk-weaker c.add_receiving.result _ _
+    (λ _ h. ap (map step_of) h ∙ map-append step_of was (filter (λ r. receives (step_of r).label) rows) ∙ ap (λ xs. map step_of was ++ xs) told)
+    c.add_receiving.ensures

@@ -1,6 +1,6 @@
 use Rattle.std.proofs.Common.{◌≡◌, ◌<◌, true, ◌++◌, ◌∷◌, [], map, length, vec_items, sym, ap, ◌∙◌, arith, rules, w8, to_z, of_z}
 use Rattle.std.proofs.lemmas.Int.{to_z-of_z}
-use Rattle.std.proofs.lemmas.Result.{IfOk-weaker}
+use Rattle.std.proofs.lemmas.Result.{IfOk-at_ok, IfOk-weaker}
 use Rattle.rows.specs.Units.{enabled}
 use Rattle.ways.specs.Nets.{net_of, unit_at}
 use Rattle.ways.specs.Ways.{combinations, acts_by}
@@ -20,12 +20,12 @@ returns-in-Broadcast c =
     ∙ ap (λ z. vec_items c.args.steps.now ++ map (listed_of n s z) (acts_by n s c.args.unit c.args.row)) same)
     c.add_combinations.ensures
 
-pub returns-in_ok-push : goal.returns-in_ok-push
-returns-in_ok-push c =
+pub returns-in_ok-add_listed : goal.returns-in_ok-add_listed
+returns-in_ok-add_listed c =
     let n = net_of c.args.self.now in
     let s = c.args.state.now in
     let same = to_z-of_z w8 c.args.value c.ranges.value in
     let able : true ≡ enabled (unit_at s c.args.unit) c.row-taken.result = search rules in
     let some : 0 < length (combinations n s c.args.unit c.row-taken.result.action) = omega (arith, c.action_count.ensures.is, c.if-action_count-gt0.true) in
-    c.in_ok-push.ensures.items ∙ ap (λ x. vec_items c.args.steps.now ++ x ∷ []) ((rw same at c.listed_alone.ensures))
+    IfOk-at_ok _ c.in_ok-add_listed.was c.add_listed.ensures.adds ∙ ap (λ x. vec_items c.args.steps.now ++ x ∷ []) ((rw same at c.listed_alone.ensures))
     ∙ ap (λ ws. vec_items c.args.steps.now ++ map (listed_of n s c.args.value) ws) (sym (acts_alone n s c.args.unit c.args.row c.row-taken.result c.row-taken.ensures able c.in_default.not-Broadcast some))

@@ -14,7 +14,7 @@ pub loop-slot-init : goal.loop-slot-init
 loop-slot-init c =
     let n = net_of c.args.self.now in
     let v = to_z w8 (of_z w8 c.args.value) in
-    c.in_ok-push.ensures.items ∙ ap (λ x. vec_items c.args.steps.now ++ x ∷ []) c.listed_alone.ensures ∙ ap (λ ls. vec_items c.args.steps.now ++ ls) (listed_last n c.args.state.now c.args.sender c.args.row v)
+    IfOk-at_ok _ c.in_ok-add_listed.was c.add_listed.ensures.adds ∙ ap (λ x. vec_items c.args.steps.now ++ x ∷ []) c.listed_alone.ensures ∙ ap (λ ls. vec_items c.args.steps.now ++ ls) (listed_last n c.args.state.now c.args.sender c.args.row v)
 
 pub loop-slot-preserved : goal.loop-slot-preserved
 loop-slot-preserved c =

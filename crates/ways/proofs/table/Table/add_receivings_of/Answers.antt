@@ -13,8 +13,8 @@ loop-row-preserved c =
     let p = receivable_at (net_of c.args.self.now) c.args.state.now c.args.unit in
     let f : ℕ → Receiving = λ k. record { unit = c.args.unit; row = k } in
     elim c.if-is_receivable.branch [
-      | then-is_receivable+in_ok-push w ↦ ap vec_items w.receivings-is ∙ sifting_yes p f c.loop-row.row _ _ c.loop-row.invariant _ _ c.is_receivable.ensures w.if-is_receivable.true w.in_ok-push.ensures.items
-      | else-is_receivable w ↦ ap vec_items w.receivings-is ∙ sifting_no p f c.loop-row.row _ _ c.loop-row.invariant _ c.is_receivable.ensures w.if-is_receivable.false
+      | then-is_receivable+in_ok-push w ↦ ap vec_items w.found-is ∙ sifting_yes p f c.loop-row.row _ _ c.loop-row.invariant _ _ c.is_receivable.ensures w.if-is_receivable.true w.in_ok-push.ensures.items
+      | else-is_receivable w ↦ ap vec_items w.found-is ∙ sifting_no p f c.loop-row.row _ _ c.loop-row.invariant _ c.is_receivable.ensures w.if-is_receivable.false
     ]
 
 pub returns : goal.returns
@@ -24,4 +24,4 @@ returns c =
     let f : ℕ → Receiving = λ k. record { unit = c.args.unit; row = k } in
     let all : c.loop-row.row ≡ length n.rows = omega (arith, c.len-row-end.ensures, c.loop-row-test.false, c.loop-row.auto.row-end) in
     let heard : false ≡ empty (free_part n (unit_at c.args.state.now c.args.unit)) = c.if-is_empty.ensures.is ∙ ap empty (c.part_within-heard.ensures.is ∙ ap (free_part n) c.unit_at.ensures) in
-    c.loop-row.invariant ∙ ap (λ m. vec_items c.args.receivings.now ++ map f (filter (receivable_at n c.args.state.now c.args.unit) (range_with_len 0 m))) all ∙ ap (λ b. vec_items c.args.receivings.now ++ cond b [] (map f rows)) heard
+    c.loop-row.invariant ∙ ap (λ m. vec_items c.args.found.now ++ map f (filter (receivable_at n c.args.state.now c.args.unit) (range_with_len 0 m))) all ∙ ap (λ b. vec_items c.args.found.now ++ cond b [] (map f rows)) heard

@@ -11,7 +11,7 @@ use Rattle.model.specs.declared.state.State.{State}
 use Rattle.ways.specs.declared.way.Way.TheVariants.{Move}
 use Rattle.ways.specs.Nets.{Net}
 use Rattle.network.proofs.Sets.{numbers_are}
-use Rattle.network.specs.Meanings.{set_of, set_numbers, may_move, movements_of, movements}
+use Rattle.network.specs.Meanings.{set_of, set_numbers, may_move, movements_of}
 
 filter_least : {X : Type 0} (p : X → Bool) (xs : List X) (n : ℕ) → length xs ≡ n → length (filter p xs) ≤ n
 filter_least p xs n e = omega (arith, length-filter p xs, count_by-le-length p xs, e)
@@ -29,9 +29,6 @@ module _ (n : Net) (allowed : List GroupSet → Bool) (s : State) where
   few_joined k =
       let all = sum_by-le (λ u. length (movements_of n allowed s u)) 256 (range_with_len 0 k) (λ k d h. few_of _) in
       omega (arith, all, length-flat_map (movements_of n allowed s) (range_with_len 0 k), length-range_with_len 0 k)
-
-  pub few_movements : n.units ≤ 6 → length (movements n allowed s) ≤ 6 * 256
-  few_movements few = omega (arith, few, few_joined n.units)
 
 pub joined_length : {Y : Type 0} (f : ℕ → List Y) (k : ℕ) → length (flat_map f (range_with_len 0 (k + 1))) ≡ length (flat_map f (range_with_len 0 k)) + length (f k)
 joined_length f k = ap length (joined_push f k) ∙ length-append (flat_map f (range_with_len 0 k)) (f k)

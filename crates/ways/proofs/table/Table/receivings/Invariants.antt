@@ -1,8 +1,0 @@
-use Rattle.std.proofs.Common.{◌≡◌, vec_items}
-use Rattle.std.specs.List.{range_with_len, flat_map}
-use Rattle.ways.specs.Nets.{net_of}
-use Rattle.ways.specs.Receivings.{receivings_of}
-use Rattle.ways.proofs.table.Table.receivings.Given as goal
-
-abbrev pub invariant-loop-unit : goal.invariant-loop-unit
-invariant-loop-unit l = vec_items l.receivings ≡ flat_map (receivings_of (net_of l.self) l.state) (range_with_len 0 l.unit)
