@@ -1,4 +1,4 @@
--- What a match tells of both of its steps. Assumes nothing.
+-- What is known without saying where: a record that is there, and what a match tells of both of its steps. Assumes nothing.
 use Rattle.std.proofs.Common.{◌≡◌, ℕ, List, Some, None, sym, refl, subst}
 use Rattle.std.proofs.Math.Bool.{Bool-set}
 use mathlib.Core.HLevel.{⊥_prop}
@@ -11,10 +11,14 @@ use Rattle.questions.specs.declared.Side.{Side}
 use Rattle.questions.specs.declared.Side.TheVariants.{Left, Right}
 use Rattle.model.specs.declared.state.Pair.{Pair}
 use Rattle.judge.specs.Comparing.{Compared, OneRange, steps_on}
-use Rattle.judge.specs.Likeness.{Reply, Answered}
+use Rattle.judge.specs.Likeness.{Holds, Reply, Answered}
 use Rattle.judge.specs.Matching.{Replying, step_on}
 use Rattle.judge.specs.declared.matches.Match.{Match}
-use Rattle.judge.proofs.Tested.{decides_answered}
+use Rattle.judge.proofs.Tested.{decides_holds, decides_answered}
+
+-- a record known to be there is there, since a test tells
+pub holds_known : (rel : List Pair) (p : Pair) → ∥ Holds rel p ∥₁ → Holds rel p
+holds_known rel p known = let d = decides_holds rel p in d.0 (∥∥₁_elim known (Bool-set _ _) (λ h. d.1 h))
 
 -- a reply, told from the other side
 reply_turned : (c : Compared) (p : Pair) (i j : ℕ) → Reply c Left p i j → Reply c Right p j i

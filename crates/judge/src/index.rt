@@ -98,7 +98,7 @@ pub(crate) fn is_state(one: &State, other: &State) -> bool
     one.to_bytes() == other.to_bytes()
 }
 
-fn is_pair(one: &Pair, other: &Pair) -> bool
+pub(crate) fn is_pair(one: &Pair, other: &Pair) -> bool
     ensures { Decides result (one.now ≡ other.now) }
 {
     is_state(&one.left, &other.left) && is_state(&one.right, &other.right)
@@ -152,7 +152,7 @@ impl Index {
     }
 
     /// Whether the record is found. What is found is there, but one may be overlooked.
-    fn finds(&self, relation: &[Pair], pair: &Pair) -> bool
+    pub(crate) fn finds(&self, relation: &[Pair], pair: &Pair) -> bool
         ensures { result ≡ true → Holds relation.now pair.now }
     {
         let wanted = pair_fingerprint(

@@ -1,4 +1,4 @@
-ghost use Rattle.std.specs.Prelude.{◌≡◌, true, OnOk, IfSome, Decides};
+ghost use Rattle.std.specs.Prelude.{◌≡◌, OnOk, IfSome, Decides};
 ghost use Rattle.std.specs.List.{All};
 ghost use Rattle.questions.specs.Asking.{first_no};
 ghost use Rattle.judge.specs.Comparing.{meant};
@@ -42,7 +42,7 @@ impl<L: System, R: System> Held<'_, '_, L, R> {
     fn match_steps(&self, matches: &mut Matches) -> Result<(), AllocError>
         ensures { OnOk result (All (Replying (meant L.System.means R.System.means self.now.between.now.comparison.now) self.now.pair.now) matches.new.found.items) }
     {
-        matches.clear(self.left.listed.len(), self.right.listed.len())?;
+        matches.clear(self.right.listed.len())?;
         for first in self.firsts(Side::Left).entries() {
             match self.match_of(first) {
                 Some(found) => matches.enter(found)?,
@@ -54,18 +54,11 @@ impl<L: System, R: System> Held<'_, '_, L, R> {
 }
 
 impl<L: System, R: System> Matching<'_, '_, '_, L, R> {
-    /// Whether the step stands in a match.
-    fn has_match(&self, side: Side, step: usize) -> bool
-        ensures { result ≡ true → Answered (meant L.System.means R.System.means self.now.held.between.now.comparison.now) side self.now.held.pair.now step }
-    {
-        self.matches.has(side, step)
-    }
-
-    /// Whether the step has a reply.
-    fn is_answered(&self, side: Side, first: &Entry<First>) -> bool
+    /// Whether the step, which is the one with that number among the firsts of the side, has a reply.
+    fn is_answered(&self, side: Side, number: usize, first: &Entry<First>) -> bool
         ensures { Decides result (Answered (meant L.System.means R.System.means self.now.held.between.now.comparison.now) side self.now.held.pair.now first.now.item.step) }
     {
-        if self.has_match(side, first.item.step) {
+        if self.matches.has(side, number, first.item.step) {
             return true;
         }
         match self.held.held_step(side, first) {
@@ -79,8 +72,8 @@ impl<L: System, R: System> Matching<'_, '_, '_, L, R> {
     pub(crate) fn first_without_reply(&self, side: Side) -> Option<u64>
         ensures { result ≡ first_no (steps_asked (meant L.System.means R.System.means self.now.held.between.now.comparison.now) side self.now.held.pair.now) }
     {
-        for first in self.held.firsts(side).entries() {
-            if !self.is_answered(side, first) {
+        for (number, first) in self.held.firsts(side).entries().iter().enumerate() {
+            if !self.is_answered(side, number, first) {
                 return Some(first.item.step as u64);
             }
         }

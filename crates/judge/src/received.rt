@@ -3,9 +3,10 @@ ghost use Rattle.lists.specs.Words.{Stands};
 ghost use Rattle.questions.specs.declared.Side.TheVariants.{Left, Right};
 ghost use Rattle.systems.specs.Meaning.{in_range_of};
 ghost use Rattle.judge.specs.Comparing.{meant, landing_on};
-ghost use Rattle.judge.specs.Likeness.{LandsAt};
+ghost use Rattle.judge.specs.Likeness.{Holds, LandsAt};
 
 use crate::held::Held;
+use crate::index::is_pair;
 use model::state::{Pair, State};
 use model::value::Value;
 use systems::System;
@@ -18,8 +19,11 @@ struct Received<'a, L: System, R: System> {
     right_step: usize,
     left: &'a L::Receive,
     right: &'a R::Receive,
+    /// A record of the relation in which they land at some value, if one is known.
+    known: Option<Pair>,
     ghost left_at: { Stands ((L.System.means held.now.between.now.comparison.now.left.now).steps held.now.pair.now.left) (L.System.receive_by held.now.between.now.comparison.now.left.now held.now.pair.now.left left.now) left_step },
     ghost right_at: { Stands ((R.System.means held.now.between.now.comparison.now.right.now).steps held.now.pair.now.right) (R.System.receive_by held.now.between.now.comparison.now.right.now held.now.pair.now.right right.now) right_step },
+    ghost holds: { ∥ IfSome known (Holds held.now.between.now.comparison.now.relation.now) ∥₁ },
 }
 
 impl<L: System, R: System> Received<'_, L, R> {
@@ -43,16 +47,47 @@ impl<L: System, R: System> Received<'_, L, R> {
             .landing_by(&pair.right, self.right, value)
     }
 
+    /// The record that they form at the value, if it is found in the relation.
+    fn record_at(&self, value: Value) -> Option<Pair>
+        ensures { IfSome result (Holds self.now.held.now.between.now.comparison.now.relation.now) }
+    {
+        let Held { between, index, .. } = self.held;
+        let pair = Pair {
+            left: self.left_landing(value)?,
+            right: self.right_landing(value)?,
+        };
+        if index.finds(between.comparison.relation, &pair) {
+            Some(pair)
+        } else {
+            None
+        }
+    }
+
+    /// Whether the pair is the known record.
+    fn is_known(&self, pair: &Pair) -> bool
+        ensures { result ≡ true → Holds self.now.held.now.between.now.comparison.now.relation.now pair.now }
+    {
+        match &self.known {
+            Some(known) => is_pair(known, pair),
+            None => false,
+        }
+    }
+
+    /// Whether the relation has the record.
+    fn holds(&self, pair: &Pair) -> bool
+        ensures { Decides result (Holds self.now.held.now.between.now.comparison.now.relation.now pair.now) }
+    {
+        let Held { between, index, .. } = self.held;
+        // Often both land at a value as they do at the lowest.
+        self.is_known(pair) || index.holds(between.comparison.relation, pair)
+    }
+
     /// Whether both land at the value, and their landings form a record of the relation.
     fn form_record(&self, value: Value) -> bool
         ensures { Decides result (LandsAt (meant L.System.means R.System.means self.now.held.now.between.now.comparison.now) Left self.now.held.now.pair.now self.now.left_step self.now.right_step value) }
     {
-        let Held { between, index, .. } = self.held;
         match (self.left_landing(value), self.right_landing(value)) {
-            (Some(left), Some(right)) => index.holds(
-                between.comparison.relation,
-                &Pair { left, right },
-            ),
+            (Some(left), Some(right)) => self.holds(&Pair { left, right }),
             _ => false,
         }
     }
@@ -72,12 +107,21 @@ impl<L: System, R: System> Held<'_, '_, L, R> {
     pub(crate) fn form_records(&self, left_step: usize, right_step: usize) -> Option<bool>
         ensures { IfSome result (λ b. Decides b ((v : ℤ) → in_range_of (meant L.System.means R.System.means self.now.between.now.comparison.now).left v ≡ true → LandsAt (meant L.System.means R.System.means self.now.between.now.comparison.now) Left self.now.pair.now left_step right_step v)) }
     {
-        let received = Received {
+        let unknown = Received {
             held: self,
             left_step,
             right_step,
             left: self.left.receive(left_step)?,
             right: self.right.receive(right_step)?,
+            known: None,
+        };
+        let received = Received {
+            known: unknown.record_at(self.lowest),
+            held: self,
+            left_step,
+            right_step,
+            left: unknown.left,
+            right: unknown.right,
         };
         Some(received.form_records())
     }

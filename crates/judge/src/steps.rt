@@ -15,6 +15,11 @@ use std::alloc::{AllocError, Global};
 use systems::System;
 use systems::listed::Listed;
 
+/// Room for as many steps, and receives among them, as a state often has; a longer list grows.
+const USUAL_STEPS: usize = 32;
+
+const USUAL_RECEIVES: usize = 8;
+
 /// Room for the steps of a state, as they are listed at a value. The system tells each receive among them by a `W`.
 #[derive(Drop)]
 pub(crate) struct Steps<W> {
@@ -55,6 +60,9 @@ pub(crate) fn list_steps<S: System>(
     system.list(state, value, &mut steps.listed)?;
     add_firsts(&steps.listed, states, &mut steps.firsts)?;
     add_receiving(&steps.listed, &mut steps.receiving)?;
+    if steps.receiving.is_empty() {
+        return Ok(());
+    }
     system.receives(state, &mut steps.told_by)
 }
 
@@ -62,10 +70,10 @@ impl<W: Drop> Steps<W> {
     /// Room for steps that land in a relation of so many records.
     pub(crate) fn with_room(heap: Global, records: usize) -> Result<Steps<W>, AllocError> {
         Ok(Steps {
-            listed: Vec::new(heap),
-            firsts: Buckets::with_room(heap, records, 0)?,
-            receiving: Vec::new(heap),
-            told_by: Vec::new(heap),
+            listed: Vec::with_capacity(heap, USUAL_STEPS)?,
+            firsts: Buckets::with_room(heap, records, USUAL_STEPS)?,
+            receiving: Vec::with_capacity(heap, USUAL_RECEIVES)?,
+            told_by: Vec::with_capacity(heap, USUAL_RECEIVES)?,
         })
     }
 

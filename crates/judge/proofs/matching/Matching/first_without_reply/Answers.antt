@@ -12,15 +12,15 @@ returns-then-not-is_answered g c =
     let x = meant g.L.System.means g.R.System.means comparison in
     let es = c.entries-first-items.result.now in
     first_without x c.args.side held.pair.now held.lowest held.between.now.one_range (g.met.L.System.keeps comparison.left.now) (g.met.R.System.keeps comparison.right.now) held.low
-    _ c.firsts.ensures es (ap (map (λ e. e.item)) (sym c.entries-first-items.ensures)) c.loop-first.first-index _ (slice_get-get_or es c.loop-first.first-index _ c.loop-first-test.true) c.loop-first.invariant
+    _ c.firsts.ensures es (ap (map (λ e. e.item)) (sym c.entries-first-items.ensures)) c.loop-number.number _ (slice_get-get_or es c.loop-number.number _ c.loop-number-test.true) c.loop-number.invariant
     (λ a. false≢true (sym c.if-not-is_answered.true ∙ c.is_answered.ensures.1 a))
 
-pub loop-first-preserved : goal.loop-first-preserved
-loop-first-preserved g c =
+pub loop-number-preserved : goal.loop-number-preserved
+loop-number-preserved g c =
     let held = c.args.self.now.held in
     let x = meant g.L.System.means g.R.System.means held.between.now.comparison.now in
     let es = c.entries-first-items.result.now in
-    answered_more x c.args.side held.pair.now es c.loop-first.first-index _ (slice_get-get_or es c.loop-first.first-index _ c.loop-first-test.true) c.loop-first.invariant (c.is_answered.ensures.0 c.if-not-is_answered.false)
+    answered_more x c.args.side held.pair.now es c.loop-number.number _ (slice_get-get_or es c.loop-number.number _ c.loop-number-test.true) c.loop-number.invariant (c.is_answered.ensures.0 c.if-not-is_answered.false)
 
 pub returns : goal.returns
 returns g c =
@@ -29,4 +29,4 @@ returns g c =
     let x = meant g.L.System.means g.R.System.means comparison in
     let es = c.entries-first-items.result.now in
     none_without x c.args.side held.pair.now held.lowest held.between.now.one_range (g.met.L.System.keeps comparison.left.now) (g.met.R.System.keeps comparison.right.now) held.low
-    _ c.firsts.ensures es (ap (map (λ e. e.item)) (sym c.entries-first-items.ensures)) c.loop-first.first-index c.loop-first-test.false c.loop-first.invariant
+    _ c.firsts.ensures es (ap (map (λ e. e.item)) (sym c.entries-first-items.ensures)) c.loop-number.number c.loop-number-test.false c.loop-number.invariant
