@@ -23,7 +23,7 @@ loop-row-preserved c =
     let same = still_there was _ (vec_items c.loop-row.steps) c.args.from c.len-to.result c.loop-row.invariant all in
     elim c.if-is_receivable.branch [
       | then-is_receivable+in_ok-add_copies w ↦
-          (let after = w.taken_by-after.ensures ∙ ap (λ y. taken y w.row.result v) c.unit_at-before.ensures ∙ ap (λ r. taken x r v) w.row.ensures in
+          (let after = w.taken_by-after.ensures ∙ ap (λ y. taken y w.row.result.now v) c.unit_at-before.ensures ∙ ap (λ r. taken x r v) w.row.ensures in
           rw w.steps-is
           (blocks_yes p Take f c.loop-row.row was _ c.loop-row.invariant _ _ c.is_receivable.ensures w.if-is_receivable.true
           (IfOk-at_ok _ w.in_ok-add_copies.was w.add_copies.ensures ∙ ap (λ zs. vec_items c.loop-row.steps ++ map (placing c.args.slot w.taken_by-after.result) zs) same ∙ ap (λ y. vec_items c.loop-row.steps ++ map (placing c.args.slot y) (drop c.args.from was)) after)))
