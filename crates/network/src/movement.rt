@@ -19,13 +19,20 @@ use systems::listed::{Listed, add_listed};
 use ways::slots::unit_at;
 use ways::way::Way;
 
+/// How many sets there are: room for that many is room for all that a rule admits.
+const SETS: usize = 256;
+
 /// The sets that the rule admits, in order.
 pub(crate) fn admitted<R: Rule>(heap: Global, rule: &R) -> Result<Vec<u8>, AllocError>
     ensures { IfOk result (λ v. v.items ≡ filter (λ b. R.Rule.admitted rule.now (set_of b)) set_numbers) }
 {
-    (0..=u8::MAX)
-        .filter(|&bits| rule.admits(GroupSet { bits }))
-        .collect(heap)
+    let mut sets = Vec::with_capacity(heap, SETS)?;
+    for bits in 0..=u8::MAX {
+        if rule.admits(GroupSet { bits }) {
+            sets.push(bits)?;
+        }
+    }
+    Ok(sets)
 }
 
 /// The way in which the unit changes to the set with this number, if there is one.

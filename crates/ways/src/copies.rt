@@ -69,8 +69,9 @@ impl Table {
         let to = steps.len();
         let before = unit_at(state, slot);
         for row in 0..self.program.rows.len() {
-            if self.is_receivable(state, slot, row) {
-                let after = self.row(row).taken_by(&before, sent);
+            let taken = self.row(row);
+            if taken.is_receivable(&before) {
+                let after = taken.taken_by(&before, sent);
                 add_copies(steps, from, to, slot, after)?;
             }
         }

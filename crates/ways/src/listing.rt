@@ -1,5 +1,6 @@
-ghost use Rattle.std.specs.Prelude.{◌≡◌, ◌++◌, map, OnOk};
-ghost use Rattle.ways.specs.Nets.{net_of};
+ghost use Rattle.std.specs.Prelude.{◌≡◌, ◌++◌, true, map, OnOk};
+ghost use Rattle.rows.specs.Units.{enabled};
+ghost use Rattle.ways.specs.Nets.{net_of, unit_at, row_at};
 ghost use Rattle.ways.specs.Ways.{acts_by, acts_of, acts};
 ghost use Rattle.ways.specs.Landings.{listed_of};
 ghost use Rattle.ways.specs.declared.way.Way.TheVariants.{Move};
@@ -17,6 +18,7 @@ use systems::listed::{Listed, add_listed};
 
 // Loops, since to add may want memory; a number is itself what is asked for.
 impl Table {
+    // Most rows are not enabled, so that is asked before, of a unit that is read once for all of them.
     fn add_acts_by(
         &self,
         state: &State,
@@ -25,12 +27,10 @@ impl Table {
         value: Value,
         steps: &mut Vec<Listed>,
     ) -> Result<(), AllocError>
+        requires { enabled (unit_at state.now unit) (row_at (net_of self.now) row) ≡ true }
         ensures { OnOk result (steps.new.items ≡ steps.old.items ++ map (listed_of (net_of self.now) state.now value) (acts_by (net_of self.now) state.now unit row)) }
     {
         let taken = self.row(row);
-        if !taken.is_enabled(&unit_at(state, unit)) {
-            return Ok(());
-        }
         if let Action::Broadcast(_) = taken.action {
             return self.add_combinations(state, unit, row, value, steps);
         }
@@ -49,8 +49,11 @@ impl Table {
     ) -> Result<(), AllocError>
         ensures { OnOk result (steps.new.items ≡ steps.old.items ++ map (listed_of (net_of self.now) state.now value) (acts_of (net_of self.now) state.now unit)) }
     {
+        let by = unit_at(state, unit);
         for row in 0..self.program.rows.len() {
-            self.add_acts_by(state, unit, row, value, steps)?;
+            if self.row(row).is_enabled(&by) {
+                self.add_acts_by(state, unit, row, value, steps)?;
+            }
         }
         Ok(())
     }

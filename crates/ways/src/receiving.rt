@@ -30,12 +30,13 @@ impl Table {
     ) -> Result<(), AllocError>
         ensures { OnOk result (found.new.items ≡ found.old.items ++ receivings_of (net_of self.now) state.now unit) }
     {
-        let heard = unit_at(state, unit).groups.part_within(self.free);
+        let by = unit_at(state, unit);
+        let heard = by.groups.part_within(self.free);
         if heard.is_empty() {
             return Ok(());
         }
         for row in 0..self.program.rows.len() {
-            if self.is_receivable(state, unit, row) {
+            if self.row(row).is_receivable(&by) {
                 found.push(Receiving { unit, row })?;
             }
         }

@@ -25,9 +25,9 @@ pub fn unit_at(state: &State, slot: usize) -> UnitState
 
 impl Table {
     /// The row with a number; past the last row there is one that nothing looks at.
-    pub(crate) fn row(&self, number: usize) -> Row
-        ensures { result ≡ row_at (net_of self.now) number }
+    pub(crate) fn row(&self, number: usize) -> &Row
+        ensures { result.now ≡ row_at (net_of self.now) number }
     {
-        self.program.rows.get(number).copied().unwrap_or(IDLE)
+        self.program.rows.get(number).unwrap_or(&IDLE)
     }
 }

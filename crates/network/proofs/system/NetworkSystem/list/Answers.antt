@@ -28,7 +28,7 @@ returns g c =
     let is_lawful : true ≡ lawful n allowed s = search rules in
     let moves = IfOk-at_ok _ c.in_ok-add_movements.was c.add_movements.ensures in
     let all =
-      sym (map-append (listed_of n s u) (movements n allowed s) (acts n s)) ∙ ap (λ z. map (listed_of n s z) (ways n allowed s)) (to_z-of_z w8 c.args.value c.ranges.value) ∙ listed_steps n s c.args.value (ways n allowed s)
-      ∙ ap (λ b. map (step_listed n s c.args.value) (map (step_of n s) (cond b (ways n allowed s) []))) is_lawful in
+    sym (map-append (listed_of n s u) (movements n allowed s) (acts n s)) ∙ ap (λ z. map (listed_of n s z) (ways n allowed s)) (to_z-of_z w8 c.args.value c.ranges.value) ∙ listed_steps n s c.args.value (ways n allowed s)
+    ∙ ap (λ b. map (step_listed n s c.args.value) (map (step_of n s) (cond b (ways n allowed s) []))) is_lawful in
     IfOk-equal c.add_acts.result _ _ _ c.add_acts.ensures
     (ap (λ ls. ls ++ map (listed_of n s u) (acts n s)) moves ∙ append_assoc was (map (listed_of n s u) (movements n allowed s)) (map (listed_of n s u) (acts n s)) ∙ ap (λ ls. was ++ ls) all)

@@ -1,6 +1,6 @@
 use Rattle.std.proofs.Common.{◌≡◌, ◌++◌, map, drop, vec_items, length, ap, ◌∙◌, arith, w8, to_z, of_z}
 use Rattle.std.proofs.lemmas.Result.{IfOk-at_ok}
-use Rattle.rows.specs.Units.{taken}
+use Rattle.rows.specs.Units.{taken, receivable}
 use Rattle.ways.specs.Nets.{net_of, unit_at}
 use Rattle.ways.specs.Ways.{receivable_at}
 use Rattle.ways.specs.Landings.{chosen}
@@ -21,11 +21,12 @@ loop-row-preserved c =
     let p = receivable_at n c.args.state.now c.args.slot in
     let all : c.len-to.result ≡ length was = omega arith in
     let same = still_there was _ (vec_items c.loop-row.steps) c.args.from c.len-to.result c.loop-row.invariant all in
+    let can = c.is_receivable.ensures ∙ ap (λ y. receivable y c.row-taken.result.now) c.unit_at-before.ensures ∙ ap (receivable x) c.row-taken.ensures in
     elim c.if-is_receivable.branch [
       | then-is_receivable+in_ok-add_copies w ↦
-          (let after = w.taken_by-after.ensures ∙ ap (λ y. taken y w.row.result v) c.unit_at-before.ensures ∙ ap (λ r. taken x r v) w.row.ensures in
+          (let after = w.taken_by-after.ensures ∙ ap (λ y. taken y c.row-taken.result.now v) c.unit_at-before.ensures ∙ ap (λ r. taken x r v) c.row-taken.ensures in
           rw w.steps-is
-          (blocks_yes p Take f c.loop-row.row was _ c.loop-row.invariant _ _ c.is_receivable.ensures w.if-is_receivable.true
+          (blocks_yes p Take f c.loop-row.row was _ c.loop-row.invariant _ _ can w.if-is_receivable.true
           (IfOk-at_ok _ w.in_ok-add_copies.was w.add_copies.ensures ∙ ap (λ zs. vec_items c.loop-row.steps ++ map (placing c.args.slot w.taken_by-after.result) zs) same ∙ ap (λ y. vec_items c.loop-row.steps ++ map (placing c.args.slot y) (drop c.args.from was)) after)))
-      | else-is_receivable w ↦ rw w.steps-is (blocks_no p Take f c.loop-row.row was _ c.loop-row.invariant _ c.is_receivable.ensures w.if-is_receivable.false)
+      | else-is_receivable w ↦ rw w.steps-is (blocks_no p Take f c.loop-row.row was _ c.loop-row.invariant _ can w.if-is_receivable.false)
     ]

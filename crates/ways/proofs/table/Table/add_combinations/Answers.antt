@@ -23,7 +23,7 @@ loop-slot-preserved c =
     let v = to_z w8 (of_z w8 c.args.value) in
     let j = c.loop-slot.slot - 1 in
     let back : to_z w8 (of_z w8 c.incoming-sent.result) ≡ c.incoming-sent.result = search (rules, to_z-of_z) in
-    let sent = back ∙ c.incoming-sent.ensures ∙ ap (λ x. incoming x c.row.result.action v) c.unit_at.ensures ∙ ap (λ (r : Row). incoming (unit_at s c.args.sender) r.action v) c.row.ensures in
+    let sent = back ∙ c.incoming-sent.ensures ∙ ap (λ x. incoming x c.row.result.now.action v) c.unit_at.ensures ∙ ap (λ (r : Row). incoming (unit_at s c.args.sender) r.action v) c.row.ensures in
     let added = IfOk-at_ok _ c.in_ok-add_chosen.was c.add_chosen.ensures in
     listing_more n s c.args.sender c.args.row v _ _ c.loop-slot.slot (omega arith) c.loop-slot.auto.slot c.loop-slot.invariant c.len-from.result _ (omega arith)
     (added ∙ ap (λ z. vec_items c.loop-slot.steps ++ flat_map (λ x. map (placing j (chosen n (unit_at s j) x z)) (drop c.len-from.result (vec_items c.loop-slot.steps))) (drop 1 (choices n s c.args.sender j))) sent)
