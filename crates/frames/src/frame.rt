@@ -1,4 +1,4 @@
-ghost use Rattle.std.specs.Prelude.{◌≡◌, ◌==◌, filter, length, not, Some};
+ghost use Rattle.std.specs.Prelude.{◌≡◌, ◌==◌, Some};
 ghost use Rattle.std.specs.List.{list_all};
 ghost use Rattle.lists.specs.Words.{records};
 ghost use Rattle.questions.specs.Asking.{first_no, refusal_of};
@@ -59,18 +59,17 @@ pub(crate) fn records(bytes: &[u8]) -> &[[u8; RECORD]]
     bytes.as_chunks().0
 }
 
-/// How many bytes are not zero.
-fn other_bytes(bytes: &[u8]) -> usize
-    ensures { result ≡ length (filter (λ b. not (b == 0)) bytes.now) }
-{
-    bytes.iter().filter(|byte| **byte != 0).count()
-}
-
-// All are counted, many at a time; a walk that stops at the first goes byte by byte.
+// The largest byte is found many bytes at a time; a walk that stops at the first one that is not zero goes byte by byte.
 fn is_zero(bytes: &[u8]) -> bool
     ensures { result ≡ list_all (λ b. b == 0) bytes.now }
 {
-    other_bytes(bytes) == 0
+    let mut largest = 0;
+    for byte in bytes {
+        if *byte > largest {
+            largest = *byte;
+        }
+    }
+    largest == 0
 }
 
 /// Whether a record of this kind and side may have this number.

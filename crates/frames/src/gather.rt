@@ -92,9 +92,12 @@ fn pair_in(item: &[u8; RECORD]) -> Pair
 pub fn relation(heap: Global, bytes: &[u8]) -> Result<Vec<Pair>, AllocError>
     ensures { IfOk result (λ v. v.items ≡ relation_of bytes.now) }
 {
-    records(bytes)
-        .iter()
-        .filter(|item| is_of(item, Kind::Pair, Side::Left))
-        .map(pair_in)
-        .collect(heap)
+    // room for all records at once, since a list that grows is copied each time
+    let mut pairs = Vec::with_capacity(heap, bytes.len() / RECORD)?;
+    for item in records(bytes) {
+        if is_of(item, Kind::Pair, Side::Left) {
+            pairs.push(pair_in(item))?;
+        }
+    }
+    Ok(pairs)
 }
