@@ -87,13 +87,20 @@ fn pair_in(item: &[u8; RECORD]) -> Pair
     Pair::from_bytes(payload(item, Kind::Pair).try_into().unwrap())
 }
 
+fn pair_count(bytes: &[u8]) -> usize {
+    records(bytes)
+        .iter()
+        .filter(|item| is_of(item, Kind::Pair, Side::Left))
+        .count()
+}
+
 /// The pairs.
 #[tactic(auto, unfolding(crate::specs::Payloads::relation_of))]
 pub fn relation(heap: Global, bytes: &[u8]) -> Result<Vec<Pair>, AllocError>
     ensures { IfOk result (λ v. v.items ≡ relation_of bytes.now) }
 {
-    // room for all records at once, since a list that grows is copied each time
-    let mut pairs = Vec::with_capacity(heap, bytes.len() / RECORD)?;
+    // counted first, since a list that grows is copied each time
+    let mut pairs = Vec::with_capacity(heap, pair_count(bytes))?;
     for item in records(bytes) {
         if is_of(item, Kind::Pair, Side::Left) {
             pairs.push(pair_in(item))?;
