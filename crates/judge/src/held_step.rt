@@ -15,6 +15,9 @@ use questions::Side;
 use systems::System;
 use systems::listed::Listed;
 
+/// No record has this number.
+const NO_RECORD: usize = usize::MAX;
+
 /// A held step of the pair's state on a side, to which the state on the opposite side is to reply.
 #[derive(Drop)]
 pub(crate) struct HeldStep<'a, L: System, R: System> {
@@ -73,18 +76,19 @@ impl<L: System, R: System> HeldStep<'_, L, R> {
     }
 
     /// Whether this step and the step `reply` land at every value, in records of the relation; none where one of them is not
-    /// held as a receive.
-    fn form_records(&self, reply: usize) -> Option<bool>
+    /// held as a receive. They may form the record with the number `place` at some.
+    fn form_records(&self, reply: usize, place: usize) -> Option<bool>
         ensures { IfSome result (λ b. Decides b ((v : ℤ) → in_range_of (meant L.System.means R.System.means self.now.held.now.between.now.comparison.now).left v ≡ true → LandsAt (meant L.System.means R.System.means self.now.held.now.between.now.comparison.now) self.now.side self.now.held.now.pair.now self.now.step reply v)) }
     {
         match self.side {
-            Side::Left => self.held.form_records(self.step, reply),
-            Side::Right => self.held.form_records(reply, self.step),
+            Side::Left => self.held.form_records(self.step, reply, place),
+            Side::Right => self.held.form_records(reply, self.step, place),
         }
     }
 
-    /// Whether the step `reply` is a reply to this step, which is a receive.
-    fn is_received_reply(&self, reply: usize) -> bool
+    /// Whether the step `reply` is a reply to this step, which is a receive. They may form the record with the number `place`
+    /// at some value.
+    fn is_received_reply(&self, reply: usize, place: usize) -> bool
         ensures { Decides result (Reply (meant L.System.means R.System.means self.now.held.now.between.now.comparison.now) self.now.side self.now.held.now.pair.now self.now.step reply) }
     {
         let held = self.held;
@@ -94,7 +98,7 @@ impl<L: System, R: System> HeldStep<'_, L, R> {
         if !is_equal(&other.label, &self.listed.label) {
             return false;
         }
-        match self.form_records(reply) {
+        match self.form_records(reply, place) {
             Some(form_records) => form_records,
             None => held
                 .between
@@ -107,7 +111,7 @@ impl<L: System, R: System> HeldStep<'_, L, R> {
         ensures { result ≡ true → Reply (meant L.System.means R.System.means self.now.held.now.between.now.comparison.now) self.now.side self.now.held.now.pair.now self.now.step reply }
     {
         if is_receive(&self.listed.label) {
-            self.is_received_reply(reply)
+            self.is_received_reply(reply, place)
         } else {
             self.is_seen_reply(reply, place)
         }
@@ -181,7 +185,7 @@ impl<L: System, R: System> HeldStep<'_, L, R> {
         ensures { Decides result (Answered (meant L.System.means R.System.means self.now.held.now.between.now.comparison.now) self.now.side self.now.held.now.pair.now self.now.step) }
     {
         (0..self.held.count(opposite(self.side)) as usize)
-            .find(|&reply| self.is_received_reply(reply))
+            .find(|&reply| self.is_received_reply(reply, NO_RECORD))
             .is_some()
     }
 

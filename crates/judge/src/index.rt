@@ -152,7 +152,7 @@ impl Index {
     }
 
     /// Whether the record is found. What is found is there, but one may be overlooked.
-    pub(crate) fn finds(&self, relation: &[Pair], pair: &Pair) -> bool
+    fn finds(&self, relation: &[Pair], pair: &Pair) -> bool
         ensures { result ≡ true → Holds relation.now pair.now }
     {
         let wanted = pair_fingerprint(

@@ -5,7 +5,7 @@ ghost use Rattle.systems.specs.Meaning.{in_range_of};
 ghost use Rattle.judge.specs.Comparing.{meant, landing_on};
 ghost use Rattle.judge.specs.Likeness.{Holds, LandsAt};
 
-use crate::held::Held;
+use crate::held::{Held, nth};
 use crate::index::is_pair;
 use model::state::{Pair, State};
 use model::value::Value;
@@ -19,11 +19,11 @@ struct Received<'a, L: System, R: System> {
     right_step: usize,
     left: &'a L::Receive,
     right: &'a R::Receive,
-    /// A record of the relation in which they land at some value, if one is known.
-    known: Option<Pair>,
+    /// A record of the relation in which they may land.
+    known: Option<&'a Pair>,
     ghost left_at: { Stands ((L.System.means held.now.between.now.comparison.now.left.now).steps held.now.pair.now.left) (L.System.receive_by held.now.between.now.comparison.now.left.now held.now.pair.now.left left.now) left_step },
     ghost right_at: { Stands ((R.System.means held.now.between.now.comparison.now.right.now).steps held.now.pair.now.right) (R.System.receive_by held.now.between.now.comparison.now.right.now held.now.pair.now.right right.now) right_step },
-    ghost holds: { ∥ IfSome known (Holds held.now.between.now.comparison.now.relation.now) ∥₁ },
+    ghost holds: { ∥ IfSome known (λ q. Holds held.now.between.now.comparison.now.relation.now q.now) ∥₁ },
 }
 
 impl<L: System, R: System> Received<'_, L, R> {
@@ -47,27 +47,11 @@ impl<L: System, R: System> Received<'_, L, R> {
             .landing_by(&pair.right, self.right, value)
     }
 
-    /// The record that they form at the value, if it is found in the relation.
-    fn record_at(&self, value: Value) -> Option<Pair>
-        ensures { IfSome result (Holds self.now.held.now.between.now.comparison.now.relation.now) }
-    {
-        let Held { between, index, .. } = self.held;
-        let pair = Pair {
-            left: self.left_landing(value)?,
-            right: self.right_landing(value)?,
-        };
-        if index.finds(between.comparison.relation, &pair) {
-            Some(pair)
-        } else {
-            None
-        }
-    }
-
     /// Whether the pair is the known record.
     fn is_known(&self, pair: &Pair) -> bool
         ensures { result ≡ true → Holds self.now.held.now.between.now.comparison.now.relation.now pair.now }
     {
-        match &self.known {
+        match self.known {
             Some(known) => is_pair(known, pair),
             None => false,
         }
@@ -78,7 +62,7 @@ impl<L: System, R: System> Received<'_, L, R> {
         ensures { Decides result (Holds self.now.held.now.between.now.comparison.now.relation.now pair.now) }
     {
         let Held { between, index, .. } = self.held;
-        // Often both land at a value as they do at the lowest.
+        // Often they land at each value as they do at the lowest.
         self.is_known(pair) || index.holds(between.comparison.relation, pair)
     }
 
@@ -103,25 +87,22 @@ impl<L: System, R: System> Received<'_, L, R> {
 
 impl<L: System, R: System> Held<'_, '_, L, R> {
     /// Whether the receives with these numbers form records of the relation at every value; none where one of them is not
-    /// held.
-    pub(crate) fn form_records(&self, left_step: usize, right_step: usize) -> Option<bool>
+    /// held. They may form the record with the number `place` at some.
+    pub(crate) fn form_records(
+        &self,
+        left_step: usize,
+        right_step: usize,
+        place: usize,
+    ) -> Option<bool>
         ensures { IfSome result (λ b. Decides b ((v : ℤ) → in_range_of (meant L.System.means R.System.means self.now.between.now.comparison.now).left v ≡ true → LandsAt (meant L.System.means R.System.means self.now.between.now.comparison.now) Left self.now.pair.now left_step right_step v)) }
     {
-        let unknown = Received {
+        let received = Received {
             held: self,
             left_step,
             right_step,
             left: self.left.receive(left_step)?,
             right: self.right.receive(right_step)?,
-            known: None,
-        };
-        let received = Received {
-            known: unknown.record_at(self.lowest),
-            held: self,
-            left_step,
-            right_step,
-            left: unknown.left,
-            right: unknown.right,
+            known: nth(self.between.comparison.relation, place),
         };
         Some(received.form_records())
     }

@@ -8,4 +8,4 @@ pub returns-in-Some : goal.returns-in-Some
 returns-in-Some g c =
     let own = c.args.self.now in
     let relation = own.held.now.between.now.comparison.now.relation.now in
-    λ yes. holds_known relation c.args.pair.now (∥∥₁_map own.holds (λ h. subst (Holds relation) (c.is_pair.ensures.0 yes) (subst (λ o. IfSome o (Holds relation)) c.in-Some.is h)))
+    λ yes. holds_known relation c.args.pair.now (∥∥₁_map own.holds (λ h. subst (Holds relation) (c.is_pair.ensures.0 yes) (subst (λ o. IfSome o (λ q. Holds relation q.now)) c.in-Some.is h)))
