@@ -4,7 +4,7 @@ ghost use Rattle.lists.specs.Words.{through};
 ghost use Rattle.model.specs.Placements.{sets_of};
 ghost use Rattle.ways.specs.declared.way.Way.TheVariants.{Move};
 ghost use Rattle.ways.specs.Landings.{moved, placed, listed_of};
-ghost use Rattle.ways.specs.Nets.{net_of};
+ghost use Rattle.ways.specs.Nets.{net_of, unit_at};
 ghost use Rattle.network.specs.Meanings.{set_of, set_numbers, may_move, movements_of, movements, lawful};
 
 use crate::network::Network;
@@ -58,14 +58,21 @@ impl<R: Rule> Network<R> {
         self.rule.allows_change(placement, unit, set)
     }
 
-    /// Whether the unit can change to the set: another one with the same free part, in a placement that is allowed. The
-    /// placement is that of the state.
-    fn may_move(&self, state: &State, placement: &Placement, unit: usize, set: GroupSet) -> bool
+    /// Whether the unit can change from its set to this one: another one with the same free part, in a placement that is
+    /// allowed. The placement is that of the state.
+    fn may_move(
+        &self,
+        state: &State,
+        placement: &Placement,
+        unit: usize,
+        old: GroupSet,
+        set: GroupSet,
+    ) -> bool
         requires placed { sets_of placement.now ≡ placed (net_of self.now.table) state.now }
+        requires old { old ≡ (unit_at state.now unit).groups }
         requires lawful { lawful (net_of self.now.table) (R.Rule.allowed self.now.rule) state.now ≡ true }
         ensures { unit < self.now.table.units → result ≡ may_move (net_of self.now.table) (R.Rule.allowed self.now.rule) state.now unit set }
     {
-        let old = unit_at(state, unit).groups;
         let free = self.table.free;
         set != old
             && set.part_within(free) == old.part_within(free)
@@ -78,9 +85,10 @@ impl<R: Rule> Network<R> {
         requires lawful { lawful (net_of self.now.table) (R.Rule.allowed self.now.rule) state.now ≡ true }
         ensures { unit < self.now.table.units → result ≡ length (movements_of (net_of self.now.table) (R.Rule.allowed self.now.rule) state.now unit) }
     {
+        let old = unit_at(state, unit).groups;
         self.sets
             .iter()
-            .filter(|&&bits| self.may_move(state, placement, unit, GroupSet { bits }))
+            .filter(|&&bits| self.may_move(state, placement, unit, old, GroupSet { bits }))
             .count()
     }
 
@@ -96,10 +104,11 @@ impl<R: Rule> Network<R> {
         requires unit { unit < self.now.table.units }
         ensures { result ≡ slice_get (movements_of (net_of self.now.table) (R.Rule.allowed self.now.rule) state.now unit) number }
     {
+        let old = unit_at(state, unit).groups;
         let bits = self
             .sets
             .iter()
-            .filter(|&&bits| self.may_move(state, placement, unit, GroupSet { bits }))
+            .filter(|&&bits| self.may_move(state, placement, unit, old, GroupSet { bits }))
             .nth(number)
             .copied();
         moving(unit, bits)
@@ -147,9 +156,10 @@ impl<R: Rule> Network<R> {
         requires unit { unit < self.now.table.units }
         ensures { OnOk result (steps.new.items ≡ steps.old.items ++ map (listed_of (net_of self.now.table) state.now value) (movements_of (net_of self.now.table) (R.Rule.allowed self.now.rule) state.now unit)) }
     {
+        let old = unit_at(state, unit).groups;
         for &bits in &self.sets {
             let set = GroupSet { bits };
-            if self.may_move(state, placement, unit, set) {
+            if self.may_move(state, placement, unit, old, set) {
                 add_listed(steps, self.table.listed_movement(state, unit, set, value))?;
             }
         }
