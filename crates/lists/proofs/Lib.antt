@@ -8,7 +8,6 @@ pub mod Adding
 pub mod Gathered
 pub mod Mapped
 pub mod LaidOut
-pub mod Ranges
 pub mod Multiplied
 pub mod Filled
 pub mod Every
