@@ -67,8 +67,8 @@ impl System for Toy {
         }
     }
 
-    fn receives(&self, heap: Global, _state: &State) -> Result<Vec<u8>, AllocError> {
-        Ok(Vec::new(heap))
+    fn receives(&self, _state: &State, _receives: &mut Vec<u8>) -> Result<(), AllocError> {
+        Ok(())
     }
 
     fn landing_by(&self, state: &State, _receive: &u8, value: Value) -> Option<State> {
