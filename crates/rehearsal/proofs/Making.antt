@@ -26,13 +26,13 @@ use Rattle.play.specs.declared.level.Level.{Level as LevelPlay}
 use Rattle.play.proofs.Facing.{step_there, record_there}
 use Rattle.rehearsal.specs.declared.attempt.Call.{Call}
 use Rattle.rehearsal.specs.declared.attempt.Call.TheVariants.{Challenge, Reply, Settle}
-use Rattle.rehearsal.specs.declared.attempt.Outcome.TheVariants.{Taken, Refused, OutOfTurn}
+use Rattle.rehearsal.specs.declared.attempt.Outcome.TheVariants.{Taken, Refused}
 use Rattle.rehearsal.specs.declared.make.AfterCall.{AfterCall}
 use Rattle.rehearsal.specs.declared.playing.Play.{Play}
 use Rattle.rehearsal.specs.declared.playing.Play.TheVariants.{Level, Challenged, Answered}
-use Rattle.rehearsal.specs.Book.{Book, book, Phase, first_reply, with_reply, book_after_settle, settle_outcome, next_book, outcome, InPhase, Agrees}
+use Rattle.rehearsal.specs.Book.{Book, book, Phase, first_reply, with_reply, book_after_settle, settle_outcome, next_book, outcome, Agrees}
 use Rattle.rehearsal.specs.Book.Phase.{level, challenged, answered}
-use Rattle.rehearsal.specs.Making.{Keeping, Next, KeepsBook, after_taken, after_refused, after_out_of_turn}
+use Rattle.rehearsal.specs.Making.{Keeping, Next, KeepsBook, after_taken, after_refused}
 use Rattle.rehearsal.proofs.Books.{first_is, value_within}
 
 pub low_within : (c : Compared) → Keeps c.left → in_range_of c.left c.left.lo ≡ true
@@ -81,9 +81,6 @@ no_settle_reply v e = let z : ◌≡◌ {A = ℕ} 0 1 = cc in omega arith
 no_refused_settle : (f : Fault) → Some (Refused f) ≡ Some Taken → ⊥
 no_refused_settle f e = let z : ◌≡◌ {A = ℕ} 0 1 = cc in omega arith
 
-no_settle_out_of_turn : {X : Type 0} → Some OutOfTurn ≡ Some Taken → X
-no_settle_out_of_turn e = let z : ◌≡◌ {A = ℕ} 0 1 = cc in absurd (omega arith)
-
 -- nothing more is asked
 nothing_there : (o : Option Step) → first_no (if_there {A = Refusal} (λ _. []) o) ≡ None
 nothing_there None = refl
@@ -99,19 +96,6 @@ module _ (c : Compared) (bis : Bisimulation c) where
     challenge_left =
         present l.pair p (λ q. step_asked (steps_on side c q) i (λ _. [])) at
         ∙ ap (λ o. cond (nat_lt i (length (steps_on side c p))) o (Some (refuse 18))) (nothing_there (slice_get (steps_on side c p) i))
-
-    challenge_ok : (next : ChallengedPlay) → Challenges c l side i (Ok next) → Next c (Level l) (book p level) (Challenge side i) (after_taken (Challenged next))
-    challenge_ok next h =
-        let here = taken_yes _ _ (h.refuses ∙ challenge_left) in
-        record {
-          agrees = record {
-            in_phase = ap (λ b. cond b (challenged side i) level) here ∙ (let s : challenged side i ≡ challenged next.side next.step = cc in s);
-            record_equal = subst (λ (k : ℕ). Stands c.relation p k) (sym h.stands.0) at;
-          };
-          went = sym (ap (λ b. cond b Taken (Refused NoStep)) here);
-          first = λ s. absurd (no_settle_challenge side i s.0 s.1);
-          kept = λ _. (h.stands.0, refl);
-        }
 
     challenge_err : (e : RefusedCall LevelPlay) → Challenges c l side i (Err e) → Next c (Level l) (book p level) (Challenge side i) (after_refused (Level e.play) e.fault)
     challenge_err e h =
@@ -224,9 +208,6 @@ module _ (c : Compared) (bis : Bisimulation c) where
         let n = subst (λ (o : Phase). Next c (Level l) (book b.present o) call m) (sym g.in_phase) (next b.present g.record_equal) in
         moved (Level l) call m b s t e n
 
-    pub keeps_challenge_ok : (l : LevelPlay) (side : Side) (i : ℕ) (next : ChallengedPlay) → self ≡ Level l → told ≡ Challenge side i → made ≡ after_taken (Challenged next) → Challenges c l side i (Ok next) → KeepsBook c self told made
-    keeps_challenge_ok l side i next s t e h = at_level l (Challenge side i) (after_taken (Challenged next)) s t e (λ p at. challenge_ok l side i p at next h)
-
     pub keeps_challenge_err : (l : LevelPlay) (side : Side) (i : ℕ) (r : RefusedCall LevelPlay) → self ≡ Level l → told ≡ Challenge side i → made ≡ after_refused (Level r.play) r.fault → Challenges c l side i (Err r) → KeepsBook c self told made
     keeps_challenge_err l side i r s t e h = at_level l (Challenge side i) (after_refused (Level r.play) r.fault) s t e (λ p at. challenge_err l side i p at r h)
 
@@ -258,39 +239,3 @@ module _ (c : Compared) (bis : Bisimulation c) where
 
       pub keeps_settle_err : (r : RefusedCall AnsweredPlay) → made ≡ after_refused (Answered r.play) r.fault → Settles c a u (Err r) → KeepsBook c self told made
       keeps_settle_err r e h = at_answered (after_refused (Answered r.play) r.fault) e (λ p at fixed. settle_err (low_within c keeps) a p at u fixed r h)
-
--- a call for which a play does not wait
-abbrev pub OutOfPhase : Play → Call → Type 0
-OutOfPhase (Level l) (Challenge side i) = ⊥
-OutOfPhase (Level l) Reply = Unit {0}
-OutOfPhase (Level l) (Settle v) = Unit {0}
-OutOfPhase (Challenged h) (Challenge side i) = Unit {0}
-OutOfPhase (Challenged h) Reply = ⊥
-OutOfPhase (Challenged h) (Settle v) = Unit {0}
-OutOfPhase (Answered a) (Challenge side i) = Unit {0}
-OutOfPhase (Answered a) Reply = Unit {0}
-OutOfPhase (Answered a) (Settle v) = ⊥
-
-module _ (c : Compared) where
-  -- such a call changes neither the book nor the play
-  same_after : (p : Pair) (phase : Phase) (play : Play) (call : Call) → InPhase play phase → OutOfPhase play call
-      → (next_book c p phase call ≡ book p phase) × (outcome c p phase call ≡ OutOfTurn)
-  same_after p phase (Level l) (Challenge side i) e o = absurd o
-  same_after p phase (Level l) Reply e o = rw e (refl, refl)
-  same_after p phase (Level l) (Settle v) e o = rw e (refl, refl)
-  same_after p phase (Challenged h) (Challenge side i) e o = rw e (refl, refl)
-  same_after p phase (Challenged h) Reply e o = absurd o
-  same_after p phase (Challenged h) (Settle v) e o = rw e (refl, refl)
-  same_after p phase (Answered a) (Challenge side i) e o = rw e (refl, refl)
-  same_after p phase (Answered a) Reply e o = rw e (refl, refl)
-  same_after p phase (Answered a) (Settle v) e o = absurd o
-
-  pub keeps_out_of_turn : (play : Play) (call : Call) → OutOfPhase play call → KeepsBook c play call (after_out_of_turn play)
-  keeps_out_of_turn play call o b agrees sound =
-      let same = same_after b.present b.phase play call agrees.in_phase o in
-      record {
-        agrees = subst (λ (d : Book). Agrees c.relation play d) (sym same.0) agrees;
-        went = sym same.1;
-        first = λ s. no_settle_out_of_turn s.2;
-        kept = λ _. (refl, ap (λ d. d.present) same.0);
-      }
