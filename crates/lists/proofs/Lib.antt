@@ -11,3 +11,4 @@ pub mod LaidOut
 pub mod Multiplied
 pub mod Filled
 pub mod Every
+pub mod Extending

@@ -1,5 +1,5 @@
 -- Words on lists that several crates use.
-use Rattle.std.specs.Prelude.{◌≡◌, ℕ, suc, ◌*◌, ◌/◌, ◌<◌, Bool, true, false, ◌&&◌, List, [], ◌∷◌, map, length, take, drop, Some, None, Option, MatchOption}
+use Rattle.std.specs.Prelude.{◌≡◌, ℕ, suc, ◌*◌, ◌/◌, ◌<◌, Bool, true, false, ◌&&◌, List, [], ◌∷◌, ◌++◌, map, length, take, drop, Some, None, Option, MatchOption}
 use Rattle.std.specs.List.{range_with_len, slice_get}
 
 -- x stands at the place k
@@ -46,3 +46,7 @@ cut w n bytes = map (λ k. take w (drop (w * k) bytes)) (range_with_len 0 n)
 -- all whole records of w bytes each
 abbrev pub records : ℕ → List ℕ → List (List ℕ)
 records w bytes = cut w (length bytes / w) bytes
+
+-- the new list is the old one with others behind it
+abbrev pub Extends : {X : Type 0} → List X → List X → Type 0
+Extends {X} old new = (rest : List X) × (new ≡ old ++ rest)

@@ -1,5 +1,5 @@
 -- Placements: question 5, and the sets of the units.
-use Rattle.std.specs.Prelude.{ℕ, ◌&&◌, List, take, Some, Option, nat_le}
+use Rattle.std.specs.Prelude.{ℕ, ◌&&◌, List, take, nat_le}
 use Rattle.questions.specs.Asking.{Question, ask, refuse}
 use Rattle.questions.specs.declared.Refusal.{Refusal}
 use Rattle.model.specs.declared.group_set.GroupSet.{GroupSet}
@@ -14,5 +14,5 @@ sets_of p = take p.units p.slots
 abbrev pub units_asked : ℕ → List (Question Refusal)
 units_asked n = ask (refuse 5) (nat_le 1 n && nat_le n 6)
 
-abbrev pub units_refusal : BadUnitCount → Option Refusal
-units_refusal _ = Some (refuse 5)
+abbrev pub units_refusal : BadUnitCount → Refusal
+units_refusal _ = refuse 5

@@ -1,5 +1,5 @@
 -- Ranges of values: question 1, and which values a range holds.
-use Rattle.std.specs.Prelude.{Bool, ◌&&◌, List, ℤ, Some, Option, int_le}
+use Rattle.std.specs.Prelude.{Bool, ◌&&◌, List, ℤ, int_le}
 use Rattle.questions.specs.Asking.{Question, ask, refuse}
 use Rattle.questions.specs.declared.Refusal.{Refusal}
 use Rattle.model.specs.declared.range.Backward.{Backward}
@@ -12,5 +12,5 @@ in_range lo hi v = int_le lo v && int_le v hi
 abbrev pub range_asked : ℤ → ℤ → List (Question Refusal)
 range_asked lo hi = ask (refuse 1) (int_le lo hi)
 
-abbrev pub range_refusal : Backward → Option Refusal
-range_refusal _ = Some (refuse 1)
+abbrev pub range_refusal : Backward → Refusal
+range_refusal _ = refuse 1

@@ -13,6 +13,14 @@ pub struct Placement {
     ghost most: { units ≤ 6 },
 }
 
+/// How many units a network has: 1 to 6.
+#[derive(Clone, Copy, PartialEq, Eq, Debug)]
+pub struct UnitCount {
+    pub(crate) count: usize,
+    ghost some: { 1 ≤ count },
+    ghost most: { count ≤ 6 },
+}
+
 /// A placement or a network has 1 to 6 units.
 #[derive(Clone, Copy, PartialEq, Eq, Debug)]
 pub struct BadUnitCount;

@@ -2,11 +2,12 @@ ghost use Rattle.std.specs.Prelude.{◌≤ℤ◌};
 
 use crate::value::Value;
 
-/// The values from `lo` to `hi`. Every range keeps `lo <= hi`.
+/// The values from `lo` to `hi`. Every range keeps `lo <= hi`: it is made by a call that refuses any other one, and its
+/// bounds cannot be changed.
 #[derive(Clone, Copy, PartialEq, Eq, Debug)]
 pub struct Range {
-    pub lo: Value,
-    pub hi: Value,
+    pub(crate) lo: Value,
+    pub(crate) hi: Value,
     ghost ordered: { lo ≤ℤ hi },
 }
 

@@ -1,4 +1,4 @@
-ghost use Rattle.std.specs.Prelude.{◌≡◌, IfOk, Some, codes};
+ghost use Rattle.std.specs.Prelude.{◌≡◌, ◌≤ℤ◌, Decides, IfOk, Some, codes};
 ghost use Rattle.questions.specs.Asking.{first_no, refusal_of};
 ghost use Rattle.model.specs.Ranges.{in_range, range_asked, range_refusal};
 
@@ -21,9 +21,24 @@ impl Range {
         }
     }
 
+    /// The lowest value.
+    pub fn lo(&self) -> Value
+        ensures { result ≡ self.now.lo }
+    {
+        self.lo
+    }
+
+    /// The highest value.
+    pub fn hi(&self) -> Value
+        ensures { result ≡ self.now.hi }
+    {
+        self.hi
+    }
+
     /// Whether a value lies in the range.
     pub fn holds(&self, value: Value) -> bool
-        ensures { result ≡ in_range self.now.lo self.now.hi value }
+        ensures is { result ≡ in_range self.now.lo self.now.hi value }
+        ensures within { Decides result ((self.now.lo ≤ℤ value) × (value ≤ℤ self.now.hi)) }
     {
         self.lo <= value && value <= self.hi
     }
@@ -31,7 +46,7 @@ impl Range {
 
 impl Backward {
     pub fn refusal(&self) -> Refusal
-        ensures { Some result ≡ range_refusal self.now }
+        ensures { result ≡ range_refusal self.now }
     {
         Refusal::of(1, 0)
     }

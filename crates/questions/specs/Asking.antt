@@ -30,10 +30,10 @@ abbrev pub restated : {A B : Type 0} → (A → B) → List (Question A) → Lis
 restated f [] = []
 restated f (q ∷ qs) = put (f q.says) q.yes ∷ restated f qs
 
--- what an answer refuses with: `say` gives the no that a fault stands for, and none for want of memory
-abbrev pub refusal_of : {X F A : Type 0} → (F → Option A) → Result X F → Option A
+-- what an answer refuses with: `say` gives the no that a fault stands for
+abbrev pub refusal_of : {X F A : Type 0} → (F → A) → Result X F → Option A
 refusal_of say (Ok x) = None
-refusal_of say (Err f) = say f
+refusal_of say (Err f) = Some (say f)
 
 -- the refusal of a question that has nothing but its number, and of one about the item k of a list
 abbrev pub refuse : ℕ → Refusal

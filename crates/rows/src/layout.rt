@@ -5,9 +5,12 @@ ghost use Rattle.rows.specs.Layouts.{parse_operand, parse_guard, parse_action, p
 use crate::row::{Action, Guard, Operand, Register, Row};
 use model::range::Range;
 use model::value::value_of;
-use tables::Layout;
+use tables::{Layout, TableFault};
 
-/// Rows of 16 bytes, at most 64 of them, with their constants in the range.
+/// The most rows of a program.
+pub const MOST_ROWS: usize = 64;
+
+/// Rows of 16 bytes, at most `MOST_ROWS` of them, with their constants in the range.
 #[derive(Clone, Copy, Debug)]
 pub struct RowLayout {
     pub range: Range,
@@ -58,20 +61,17 @@ impl RowLayout {
     }
 }
 
-impl Layout<Row> for RowLayout {
+impl Layout<Row, MOST_ROWS> for RowLayout {
     const WIDTH: usize = 16;
 
-    const MOST: usize = 64;
-
     ghost WIDTH = { 16 };
-
-    ghost MOST = { 64 };
 
     ghost parse = { λ x. parse_row x.range.lo x.range.hi };
 
     ghost some = { Prim.search rules };
 
-    fn read(&self, bytes: &[u8]) -> Option<Row> {
+    fn read(&self, number: usize, bytes: &[u8]) -> Result<Row, TableFault> {
+        let fault = TableFault::Record { number };
         let [
             from,
             guard,
@@ -91,18 +91,18 @@ impl Layout<Row> for RowLayout {
             last,
         ] = bytes
         else {
-            return None;
+            return Err(fault);
         };
         if *from > 63 || *to > 63 || *blank != 0 || *last != 0 {
-            return None;
+            return Err(fault);
         }
-        Some(Row {
+        Ok(Row {
             from: *from,
-            guard: self.guard(*guard, *a, *b, *c, *d)?,
-            action: self.action(*action, *e, *f)?,
+            guard: self.guard(*guard, *a, *b, *c, *d).ok_or(fault)?,
+            action: self.action(*action, *e, *f).ok_or(fault)?,
             to: *to,
-            first: self.operand(*first, *g)?,
-            second: self.operand(*second, *h)?,
+            first: self.operand(*first, *g).ok_or(fault)?,
+            second: self.operand(*second, *h).ok_or(fault)?,
         })
     }
 }

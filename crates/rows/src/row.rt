@@ -1,8 +1,9 @@
 use model::value::Value;
 
 /// A value that a row reads: from a register of the unit, or a constant.
-#[derive(Clone, Copy, Debug)]
+#[derive(Clone, Copy, Default, Debug)]
 pub enum Operand {
+    #[default]
     First,
     Second,
     Constant(Value),
@@ -10,8 +11,9 @@ pub enum Operand {
 
 /// When a row is enabled at its location. The first operand is compared with the second. `None` stands here and not an
 /// `Option` of a comparison: it is a guard like the others, which always holds.
-#[derive(Clone, Copy, Debug)]
+#[derive(Clone, Copy, Default, Debug)]
 pub enum Guard {
+    #[default]
     None,
     Equal(Operand, Operand),
     Differs(Operand, Operand),
@@ -25,8 +27,9 @@ pub enum Register {
 }
 
 /// What a unit does as it takes a row.
-#[derive(Clone, Copy, Debug)]
+#[derive(Clone, Copy, Default, Debug)]
 pub enum Action {
+    #[default]
     Silent,
     /// Sends the operand's value.
     Broadcast(Operand),
@@ -35,7 +38,7 @@ pub enum Action {
 }
 
 /// A row of a program. The new registers are read together, after a receive has filled its register.
-#[derive(Clone, Copy, Debug)]
+#[derive(Clone, Copy, Default, Debug)]
 pub struct Row {
     pub from: u8,
     pub guard: Guard,

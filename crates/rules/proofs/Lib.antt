@@ -1,1 +1,3 @@
 pub mod Parked
+pub mod Linked
+pub mod Tuned

@@ -1,8 +1,8 @@
 -- The bytes of a link record, and when a link is met.
-use Rattle.std.specs.Prelude.{ℕ, Bool, false, cond, not, ◌&&◌, ◌||◌, List, length, Some, None, Option, ◌==◌, nat_le, slice_index}
+use Rattle.std.specs.Prelude.{◌≡◌, ℕ, Bool, true, false, cond, not, ◌&&◌, ◌||◌, List, length, Some, None, Option, ◌==◌, nat_le, slice_index}
 use Rattle.std.specs.List.{slice_get}
-use Rattle.lists.specs.Words.{given}
-use Rattle.model.specs.GroupSets.{linked}
+use Rattle.lists.specs.Words.{Stands, given}
+use Rattle.model.specs.GroupSets.{has, linked}
 use Rattle.model.specs.declared.group_set.GroupSet.{GroupSet}
 use Rattle.rules.specs.declared.link.LinkKind.{LinkKind}
 use Rattle.rules.specs.declared.link.LinkKind.TheVariants.{Joined, Apart}
@@ -32,6 +32,14 @@ met_by kind (Some s) (Some t) = requires kind (linked s t)
 
 abbrev pub met : List GroupSet → Link → Bool
 met sets l = met_by l.kind (slice_get sets l.one) (slice_get sets l.other)
+
+-- the subject's words for it: there is a group on which both are, or there is none
+abbrev pub Requires : LinkKind → GroupSet → GroupSet → Type 0
+Requires Joined s t = (g : ℕ) × (has s g ≡ true) × (has t g ≡ true)
+Requires Apart s t = (g : ℕ) → has s g ≡ true → has t g ≡ true → ⊥
+
+abbrev pub Met : List GroupSet → Link → Type 0
+Met sets l = (s : GroupSet) × (t : GroupSet) × Stands sets s l.one × Stands sets t l.other × Requires l.kind s t
 
 -- one of its two units is this one
 abbrev pub concerns : ℕ → Link → Bool

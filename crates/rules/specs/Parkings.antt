@@ -1,6 +1,6 @@
 -- The parking rule: every unit's set is recorded for that unit.
-use Rattle.std.specs.Prelude.{ℕ, Bool, false, ◌&&◌, ◌||◌, List, [], ◌∷◌, vec_items, ◌==◌}
-use Rattle.lists.specs.Words.{every_from, records, gathered}
+use Rattle.std.specs.Prelude.{ℕ, Bool, false, ◌&&◌, ◌||◌, List, [], ◌∷◌, ◌==◌}
+use Rattle.lists.specs.Words.{Stands, every_from, records, gathered}
 use Rattle.questions.specs.Asking.{Question}
 use Rattle.questions.specs.declared.Refusal.{Refusal}
 use Rattle.tables.specs.Table.{table_asked}
@@ -17,13 +17,17 @@ recorded (p ∷ ps) unit set = (p.unit == unit && p.set.bits == set.bits) || rec
 abbrev pub parks : List Place → List GroupSet → Bool
 parks places sets = every_from (recorded places) 0 sets
 
+-- the subject's words for it: for each unit some record has that unit and its set
+abbrev pub Parked : List Place → List GroupSet → Type 0
+Parked places sets = (unit : ℕ) (set : GroupSet) → Stands sets set unit → (k : ℕ) × Stands places (record { unit = unit; set = set }) k
+
 -- what a parking rule allows
 abbrev pub parking_allows : Parking → List GroupSet → Bool
-parking_allows x = parks (vec_items x.places)
+parking_allows x = parks x.places.items
 
 -- the set is recorded for the unit, whatever the placement
 abbrev pub parking_allows_change : Parking → List GroupSet → ℕ → GroupSet → Bool
-parking_allows_change x sets unit set = recorded (vec_items x.places) unit set
+parking_allows_change x sets unit set = recorded x.places.items unit set
 
 -- 2: whole records of two bytes, and at most 48? 3: is each as laid out?
 abbrev pub parking_asked : List ℕ → List (Question Refusal)

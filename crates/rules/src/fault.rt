@@ -10,20 +10,20 @@ use tables::TableFault;
 /// Why a rule is not made.
 #[derive(Clone, Copy, PartialEq, Eq, Debug)]
 pub enum RuleFault {
-    /// The table of its records is not loaded.
+    /// The records are no table of whole records, of few enough, each as laid out.
     Table(TableFault),
     /// The tuner's limit is above 8.
     Limit,
 }
 
 impl RuleFault {
-    /// The refusal that the fault stands for; none for want of memory.
-    pub fn refusal(&self) -> Option<Refusal>
+    /// The refusal with question 2, 3 or 4.
+    pub fn refusal(&self) -> Refusal
         ensures { result ≡ rule_refusal self.now }
     {
         match self {
             RuleFault::Table(fault) => fault.refusal(2, 3),
-            RuleFault::Limit => Some(Refusal::of(4, 0)),
+            RuleFault::Limit => Refusal::of(4, 0),
         }
     }
 }

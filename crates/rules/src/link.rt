@@ -7,11 +7,12 @@ ghost use Rattle.std.proofs.Common.{rules};
 use model::group_set::GroupSet;
 use std::error::Error;
 use std::fmt;
-use tables::Layout;
+use tables::{Layout, TableFault};
 
 /// Whether two units must share a group, or must not.
-#[derive(Clone, Copy, PartialEq, Eq, Debug)]
+#[derive(Clone, Copy, PartialEq, Eq, Default, Debug)]
 pub enum LinkKind {
+    #[default]
     Joined,
     Apart,
 }
@@ -53,7 +54,7 @@ fn set_after(sets: &[GroupSet], changed: usize, set: GroupSet, unit: usize) -> O
 }
 
 /// A requirement on two units.
-#[derive(Clone, Copy, PartialEq, Eq, Debug)]
+#[derive(Clone, Copy, PartialEq, Eq, Default, Debug)]
 pub struct Link {
     pub kind: LinkKind,
     pub one: usize,
@@ -104,32 +105,32 @@ impl Link {
     }
 }
 
-/// Three bytes: kind (1 joined, 2 apart), then two units 0 to 5. At most 16 of them.
+/// The most records of links.
+pub const MOST_LINKS: usize = 16;
+
+/// Three bytes: kind (1 joined, 2 apart), then two units 0 to 5. At most `MOST_LINKS` of them.
 #[derive(Clone, Copy, Debug)]
 pub struct LinkLayout;
 
-impl Layout<Link> for LinkLayout {
+impl Layout<Link, MOST_LINKS> for LinkLayout {
     const WIDTH: usize = 3;
 
-    const MOST: usize = 16;
-
     ghost WIDTH = { 3 };
-
-    ghost MOST = { 16 };
 
     ghost parse = { λ _. link_of };
 
     ghost some = { Prim.search rules };
 
-    fn read(&self, bytes: &[u8]) -> Option<Link> {
+    fn read(&self, number: usize, bytes: &[u8]) -> Result<Link, TableFault> {
+        let fault = TableFault::Record { number };
         let [kind, one, other] = bytes else {
-            return None;
+            return Err(fault);
         };
         if *one > 5 || *other > 5 {
-            return None;
+            return Err(fault);
         }
-        Some(Link {
-            kind: LinkKind::try_from(*kind).ok()?,
+        Ok(Link {
+            kind: LinkKind::try_from(*kind).ok().ok_or(fault)?,
             one: usize::from(*one),
             other: usize::from(*other),
         })

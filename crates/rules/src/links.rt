@@ -1,33 +1,35 @@
-ghost use Rattle.std.specs.Prelude.{◌≡◌, true, IfOk};
+ghost use Rattle.std.specs.Prelude.{◌≡◌, true, List, Decides, IfOk};
+ghost use Rattle.model.specs.declared.group_set.GroupSet.{GroupSet};
 ghost use Rattle.questions.specs.Asking.{first_no, refusal_of};
 ghost use Rattle.rules.specs.Admitting.{none_barred};
 ghost use Rattle.rules.specs.Changing.{links_followed};
 ghost use Rattle.rules.specs.Faults.{rule_refusal};
-ghost use Rattle.rules.specs.LinkRules.{meets, links_allow, links_allow_change, links_asked, links_of};
+ghost use Rattle.rules.specs.LinkRules.{meets, Meets, links_allow, links_allow_change, links_asked, links_of};
 
 use crate::fault::RuleFault;
-use crate::link::{Link, LinkLayout};
+use crate::link::{Link, LinkLayout, MOST_LINKS};
 use crate::rule::Rule;
+use arrayvec::ArrayVec;
 use model::group_set::GroupSet;
 use model::placement::Placement;
-use std::alloc::Global;
 use tables::load;
 
 /// Every link is met.
 #[derive(Drop)]
 pub struct Links {
-    pub(crate) links: Vec<Link>,
+    links: ArrayVec<Link, MOST_LINKS>,
 }
 
 impl Links {
     /// The rule of the link records in `bytes`, or a refusal with question 2 or 3.
-    pub fn load(heap: Global, bytes: &[u8]) -> Result<Links, RuleFault>
+    pub fn load(bytes: &[u8]) -> Result<Links, RuleFault>
         ensures refuses { refusal_of rule_refusal result ≡ first_no (links_asked bytes.now) }
         ensures means { IfOk result (λ x. links_allow x ≡ meets (links_of bytes.now)) }
+        ensures met { IfOk result (λ x. (sets : List GroupSet) → Decides (links_allow x sets) (Meets (links_of bytes.now) sets)) }
     {
         // the one loader and a name; not generic over the rule, since the contract names definitions of this one
         Ok(Links {
-            links: load(&LinkLayout, heap, bytes)?,
+            links: load(&LinkLayout, bytes)?,
         })
     }
 }

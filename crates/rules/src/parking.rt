@@ -1,33 +1,36 @@
-ghost use Rattle.std.specs.Prelude.{◌≡◌, true, IfOk};
+ghost use Rattle.std.specs.Prelude.{◌≡◌, true, List, Decides, IfOk};
+ghost use Rattle.model.specs.declared.group_set.GroupSet.{GroupSet};
 ghost use Rattle.questions.specs.Asking.{first_no, refusal_of};
 ghost use Rattle.rules.specs.Admitting.{none_barred};
 ghost use Rattle.rules.specs.Changing.{one_changed};
 ghost use Rattle.rules.specs.Faults.{rule_refusal};
-ghost use Rattle.rules.specs.Parkings.{recorded, parks, parking_allows, parking_allows_change, parking_asked, places_of};
+ghost use Rattle.rules.specs.Parkings.{recorded, parks, Parked, parking_allows, parking_allows_change, parking_asked, places_of};
 
 use crate::fault::RuleFault;
-use crate::place::{Place, PlaceLayout};
+use crate::place::{MOST_PLACES, Place, PlaceLayout};
 use crate::rule::Rule;
+use arrayvec::ArrayVec;
+use lookup::first_equal;
 use model::group_set::GroupSet;
 use model::placement::Placement;
-use std::alloc::Global;
 use tables::load;
 
 /// Every unit's set is recorded for that unit.
 #[derive(Drop)]
 pub struct Parking {
-    pub(crate) places: Vec<Place>,
+    places: ArrayVec<Place, MOST_PLACES>,
 }
 
 impl Parking {
     /// The rule of the parking records in `bytes`, or a refusal with question 2 or 3.
-    pub fn load(heap: Global, bytes: &[u8]) -> Result<Parking, RuleFault>
+    pub fn load(bytes: &[u8]) -> Result<Parking, RuleFault>
         ensures refuses { refusal_of rule_refusal result ≡ first_no (parking_asked bytes.now) }
         ensures means { IfOk result (λ x. parking_allows x ≡ parks (places_of bytes.now)) }
+        ensures parked { IfOk result (λ x. (sets : List GroupSet) → Decides (parking_allows x sets) (Parked (places_of bytes.now) sets)) }
     {
         // the one loader and a name; not generic over the rule, since the contract names definitions of this one
         Ok(Parking {
-            places: load(&PlaceLayout, heap, bytes)?,
+            places: load(&PlaceLayout, bytes)?,
         })
     }
 
@@ -35,7 +38,7 @@ impl Parking {
     fn records(&self, unit: usize, set: GroupSet) -> bool
         ensures { result ≡ recorded self.now.places.items unit set }
     {
-        self.places.contains(&Place { unit, set })
+        first_equal(self.places.as_slice(), &Place { unit, set }).is_some()
     }
 }
 

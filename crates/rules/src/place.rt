@@ -4,10 +4,10 @@ ghost use Rattle.std.proofs.Common.{rules};
 
 use lookup::Exact;
 use model::group_set::GroupSet;
-use tables::Layout;
+use tables::{Layout, TableFault};
 
 /// A parking record: this unit may sit on this set.
-#[derive(Clone, Copy, PartialEq, Eq, Debug)]
+#[derive(Clone, Copy, PartialEq, Eq, Default, Debug)]
 pub struct Place {
     pub unit: usize,
     pub set: GroupSet,
@@ -17,33 +17,29 @@ impl Exact for Place {
     ghost exact = { Prim.search rules };
 }
 
-/// Two bytes: unit 0 to 5, set. At most 48 of them.
+/// The most records of parkings.
+pub const MOST_PLACES: usize = 48;
+
+/// Two bytes: unit 0 to 5, set. At most `MOST_PLACES` of them.
 #[derive(Clone, Copy, Debug)]
 pub struct PlaceLayout;
 
-impl Layout<Place> for PlaceLayout {
+impl Layout<Place, MOST_PLACES> for PlaceLayout {
     const WIDTH: usize = 2;
 
-    const MOST: usize = 48;
-
     ghost WIDTH = { 2 };
-
-    ghost MOST = { 48 };
 
     ghost parse = { λ _. place_of };
 
     ghost some = { Prim.search rules };
 
-    fn read(&self, bytes: &[u8]) -> Option<Place> {
-        let [unit, set] = bytes else {
-            return None;
-        };
-        if *unit > 5 {
-            return None;
+    fn read(&self, number: usize, bytes: &[u8]) -> Result<Place, TableFault> {
+        match bytes {
+            [unit, set] if *unit <= 5 => Ok(Place {
+                unit: usize::from(*unit),
+                set: GroupSet { bits: *set },
+            }),
+            _ => Err(TableFault::Record { number }),
         }
-        Some(Place {
-            unit: usize::from(*unit),
-            set: GroupSet { bits: *set },
-        })
     }
 }

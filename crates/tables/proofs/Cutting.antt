@@ -1,12 +1,9 @@
--- Bytes that are cut into chunks of one size are the records of that size. Assumes nothing.
+-- The first record of bytes, and those behind it. Assumes nothing.
 use Rattle.std.proofs.Common.{◌≡◌, ℕ, zero, suc, ◌+◌, ◌*◌, ◌/◌, ◌<◌, List, ◌∷◌, ◌++◌, map, length, take, drop, refl, ap, ◌∙◌, mul-zero, mul-add, mul-one, add-one, arith, length-append}
 use Rattle.std.proofs.Math.Nat.{div-eq_of_lt, add-div_left}
 use Rattle.std.proofs.Math.Seq.{drop-append-add}
 use Rattle.std.proofs.lemmas.List.{take_at}
 use Rattle.std.specs.List.{range_with_len}
-use Rattle.std.specs.Slice.Iter.{chunks_exact_rest, chunks_exact_size, chunks_exact_steps}
-use Rattle.std.proofs.lemmas.Iterator.{YieldsList}
-use Rattle.std.proofs.lemmas.Iterator.Splits.{YieldsList-from_shown_while}
 use Rattle.lists.specs.Words.{records}
 use Rattle.lists.proofs.Records.{length_records}
 
@@ -15,10 +12,10 @@ moved f g e a zero = refl
 moved f g e a (suc n) = ap (λ y. y ∷ map f (range_with_len (a + 1 + 1) n)) (e a) ∙ ap (λ ys. g a ∷ ys) (moved f g e (a + 1) n)
 
 module _ (w : ℕ) (some : 0 < w) where
-  records_none : (bytes : List ℕ) → length bytes < w → length (records w bytes) ≡ 0
+  pub records_none : (bytes : List ℕ) → length bytes < w → length (records w bytes) ≡ 0
   records_none bytes h = length_records w bytes ∙ div-eq_of_lt h
 
-  records_more : (x bytes : List ℕ) → length x ≡ w → records w (x ++ bytes) ≡ x ∷ records w bytes
+  pub records_more : (x bytes : List ℕ) → length x ≡ w → records w (x ++ bytes) ≡ x ∷ records w bytes
   records_more x bytes h =
       let f : ℕ → List ℕ = λ k. take w (drop (w * k) (x ++ bytes)) in
       let n : length (x ++ bytes) / w ≡ suc (length bytes / w) =
@@ -29,10 +26,3 @@ module _ (w : ℕ) (some : 0 < w) where
       ap (λ i. take w (drop i (x ++ bytes))) e ∙ ap (take w) (drop-append-add x bytes (w * k)) in
       ap (λ m. map f (range_with_len 0 m)) n ∙ ap (λ y. y ∷ map f (range_with_len 1 (length bytes / w))) here
       ∙ ap (λ ys. x ∷ ys) (moved f _ next 0 (length bytes / w))
-
-  pub chunks_are_records : {s : _} (bytes : List ℕ) → chunks_exact_rest s ≡ bytes → chunks_exact_size s ≡ w → YieldsList chunks_exact_steps (λ x. x.now) s (records w bytes)
-  chunks_are_records {s} bytes rest size =
-      rw (← rest) (YieldsList-from_shown_while chunks_exact_steps (λ x. x.now) (λ t. records w (chunks_exact_rest t)) (λ t. chunks_exact_size t ≡ w)
-      (λ s t p h. records_none (chunks_exact_rest s) (omega (arith, p, h.1.0)))
-      (λ s x t p h. (h.0 ∙ p, ap (records w) h.1.0 ∙ records_more x.now (chunks_exact_rest t) (h.1.1 ∙ p)))
-      s size)

@@ -1,4 +1,4 @@
-use Rattle.std.proofs.Common.{set, ap, ◌∙◌, rules, vec_items}
+use Rattle.std.proofs.Common.{set, ap, ◌∙◌, rules}
 use borrow.Author.Tests.{tests}
 use Rattle.std.proofs.lemmas.Iterator.{YieldsList-from_slice}
 use Rattle.std.proofs.lemmas.Iterator.Search.{all_from_yields_List}
@@ -9,7 +9,7 @@ use Rattle.rules.proofs.links.LinksRule.allows_change.Goals as goal
 
 pub returns : goal.returns
 returns c =
-    let links = vec_items c.args.self.now.links in
+    let links = c.args.self.now.links.items in
     let unit = c.args.unit in
     let passes = met_of unit (set c.sets-sets.result.now unit c.args.set) in
     all_from_yields_List passes _ _ _ c.all.ensures.ran (YieldsList-from_slice links cc) (λ x b q k. search (rules, tests))

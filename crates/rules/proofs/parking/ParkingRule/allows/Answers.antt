@@ -1,4 +1,4 @@
-use Rattle.std.proofs.Common.{ap, ◌∙◌, rules, vec_items}
+use Rattle.std.proofs.Common.{ap, ◌∙◌, rules}
 use borrow.Author.Tests.{tests}
 use Rattle.std.proofs.lemmas.Iterator.{YieldsList-from_slice}
 use Rattle.std.proofs.lemmas.Iterator.Consumers.{YieldsList-at, YieldsList-from_enumerate}
@@ -9,7 +9,7 @@ use Rattle.rules.proofs.parking.ParkingRule.allows.Goals as goal
 
 pub returns : goal.returns
 returns c =
-    let ps = vec_items c.args.self.now.places in
+    let ps = c.args.self.now.places.items in
     let sets = c.sets.result.now in
     all_from_yields_List (λ p. recorded ps p.0 p.1) _ _ _ c.all.ensures.ran
     (YieldsList-from_enumerate (YieldsList-at c.enumerate.ensures.source (YieldsList-from_slice sets cc)) c.enumerate.ensures.count) (λ x b q k. search (rules, tests))

@@ -1,0 +1,14 @@
+-- Lists that got others behind them. Assumes nothing.
+use Rattle.std.proofs.Common.{◌≡◌, ◌≤◌, List, [], ◌++◌, length, take, sym, refl, ap, ◌∙◌, append_assoc, arith}
+use Rattle.std.proofs.lemmas.List.{append-nil, take_all, take-append-le}
+use Rattle.lists.specs.Words.{Extends}
+
+pub extends_same : {X : Type 0} (xs : List X) → Extends xs xs
+extends_same xs = ([], sym (append-nil xs))
+
+pub extends_then : {X : Type 0} (a b c : List X) → Extends a b → Extends b c → Extends a c
+extends_then a b c p q = (p.0 ++ q.0, q.1 ∙ ap (λ l. l ++ q.0) p.1 ∙ append_assoc a p.0 q.0)
+
+-- cut to its former length, it is what it was
+pub extends_cut : {X : Type 0} (a b : List X) → Extends a b → take (length a) b ≡ a
+extends_cut a b p = ap (take (length a)) p.1 ∙ take-append-le (length a) a p.0 (let h : length a ≤ length a = omega arith in h) ∙ take_all (length a) a (let h : length a ≤ length a = omega arith in h)
