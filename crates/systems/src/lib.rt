@@ -1,12 +1,12 @@
 #![tactic(auto)]
 
-ghost use Rattle.std.specs.Prelude.{◌≡◌, ◌++◌, map, length, OnOk};
+ghost use Rattle.std.specs.Prelude.{◌≡◌, ◌++◌, map, length, OnOk, OnErr};
 ghost use Rattle.systems.specs.Meaning.{Meaning, Step, Keeps, in_range_of, label_at, landing_at};
 ghost use Rattle.systems.specs.Listing.{listing, receives_in};
-ghost use Rattle.lists.specs.Words.{given};
+ghost use Rattle.lists.specs.Words.{given, Extends};
 ghost use Rattle.model.specs.declared.state.State.{State};
 
-use crate::listed::{Listed, add_listed};
+use crate::listed::{Listed, MOST_LISTED, add_listed};
 use model::group_set::GroupSet;
 use model::label::Label;
 use model::range::Range;
@@ -51,12 +51,18 @@ pub trait System {
         ensures { result ≡ landing_at (means self.now) state.now step value };
 
     /// Adds all steps of the state in one pass, each with its label and its landing at the value. A list that would get longer
-    /// than `MOST_LISTED` counts as want of memory.
+    /// than `MOST_LISTED` counts as want of memory. Where memory is wanting, the list stays as it was.
     fn list(&self, state: &State, value: Value, steps: &mut Vec<Listed>) -> Result<(), AllocError>
-        ensures { OnOk result (steps.new.items ≡ steps.old.items ++ listing (means self.now) state.now value) }
+        ensures adds { OnOk result (steps.new.items ≡ steps.old.items ++ listing (means self.now) state.now value) }
+        ensures leaves { OnErr result (steps.new.items ≡ steps.old.items) }
     {
-        // A step is asked for by its number, and to add it may want memory.
-        for step in 0..self.step_count(state) {
+        // All room is made at once, so that no step is added where there is none for the last.
+        let count = self.step_count(state);
+        if count > MOST_LISTED.saturating_sub(steps.len()) as u64 {
+            return Err(AllocError);
+        }
+        steps.reserve(count as usize)?;
+        for step in 0..count {
             if let Some(label) = self.label(state, step) {
                 let landing = self.landing(state, step, value);
                 add_listed(steps, Listed { label, landing })?;
@@ -65,9 +71,12 @@ pub trait System {
         Ok(())
     }
 
-    /// Adds the receives among the steps of the state, in their order.
+    /// Adds the receives among the steps of the state, in their order, behind what the list holds. Where memory is wanting, the
+    /// list stays as it was.
     fn receives(&self, state: &State, receives: &mut Vec<Self::Receive>) -> Result<(), AllocError>
-        ensures { OnOk result (map (receive_by self.now state.now) receives.new.items ≡ map (receive_by self.now state.now) receives.old.items ++ receives_in ((means self.now).steps state.now)) };
+        ensures adds { OnOk result (map (receive_by self.now state.now) receives.new.items ≡ map (receive_by self.now state.now) receives.old.items ++ receives_in ((means self.now).steps state.now)) }
+        ensures keeps { Extends receives.old.items receives.new.items }
+        ensures leaves { OnErr result (receives.new.items ≡ receives.old.items) };
 
     /// Where a receive lands at a value, or none where the value is out of range.
     fn landing_by(&self, state: &State, receive: &Self::Receive, value: Value) -> Option<State>
