@@ -1,5 +1,5 @@
 -- Lists that got others behind them. Assumes nothing.
-use Rattle.std.proofs.Common.{◌≡◌, ◌≤◌, List, [], ◌++◌, length, take, sym, refl, ap, ◌∙◌, append_assoc, arith}
+use Rattle.std.proofs.Common.{◌≡◌, ◌≤◌, List, [], ◌++◌, OnErr, Ok, Err, Result, length, take, sym, refl, ap, ◌∙◌, append_assoc, arith}
 use Rattle.std.proofs.lemmas.List.{append-nil, take_all, take-append-le}
 use Rattle.lists.specs.Words.{Extends}
 
@@ -12,3 +12,8 @@ extends_then a b c p q = (p.0 ++ q.0, q.1 ∙ ap (λ l. l ++ q.0) p.1 ∙ append
 -- cut to its former length, it is what it was
 pub extends_cut : {X : Type 0} (a b : List X) → Extends a b → take (length a) b ≡ a
 extends_cut a b p = ap (take (length a)) p.1 ∙ take-append-le (length a) a p.0 (let h : length a ≤ length a = omega arith in h) ∙ take_all (length a) a (let h : length a ≤ length a = omega arith in h)
+
+-- told of a call that failed
+pub err_extends : {X T E : Type 0} (r : Result T E) (a b : List X) → Extends a b → OnErr r (Extends a b)
+err_extends (Ok x) a b p = tt
+err_extends (Err e) a b p = p

@@ -1,5 +1,5 @@
 -- A network without its mobility rule, and the parts of a state.
-use Rattle.std.specs.Prelude.{ℕ, List, ℤ, vec_items, slice_index_or}
+use Rattle.std.specs.Prelude.{ℕ, List, ℤ, slice_index_or}
 use Rattle.model.specs.Bytes.{zero_unit}
 use Rattle.model.specs.GroupSets.{part}
 use Rattle.model.specs.declared.group_set.GroupSet.{GroupSet}
@@ -20,7 +20,7 @@ pub record Net : Type 0 where
   pub rows : List Row
 
 abbrev pub net_of : Table → Net
-net_of t = record { lo = t.program.range.lo; hi = t.program.range.hi; free = t.free; units = t.units; rows = vec_items t.program.rows }
+net_of t = record { lo = t.program.range.lo; hi = t.program.range.hi; free = t.free; units = t.units; rows = t.program.rows.items }
 
 -- the unit in the slot j; past the slots there are zero bytes
 abbrev pub unit_at : State → ℕ → UnitState

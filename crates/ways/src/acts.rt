@@ -69,7 +69,7 @@ impl Table {
         ensures is { result ≡ length (acts_of (net_of self.now) state.now unit) }
         ensures few { result ≤ 64 * 65 ^ 6 }
     {
-        (0..self.program.rows.len())
+        (0..self.program.rows().len())
             .map(|row| self.count_by(state, unit, row))
             .sum()
     }
@@ -77,7 +77,7 @@ impl Table {
     fn act_of(&self, state: &State, unit: usize, number: usize) -> Option<Way>
         ensures { result ≡ slice_get (acts_of (net_of self.now) state.now unit) number }
     {
-        let rows = self.program.rows.len();
+        let rows = self.program.rows().len();
         let (row, left) = locate(rows, |row| self.count_by(state, unit, row), number)?;
         Some(self.act_by(state, unit, row, left))
     }

@@ -22,7 +22,7 @@ impl Table {
         ensures is { result ≡ length (receivable_rows (net_of self.now) state.now unit) }
         ensures few { result ≤ 64 }
     {
-        (0..self.program.rows.len())
+        (0..self.program.rows().len())
             .filter(|&row| self.is_receivable(state, unit, row))
             .count()
     }
@@ -31,7 +31,7 @@ impl Table {
     fn receiving(&self, state: &State, unit: usize, number: usize) -> Option<Choice>
         ensures { result ≡ slice_get (map Take (receivable_rows (net_of self.now) state.now unit)) number }
     {
-        (0..self.program.rows.len())
+        (0..self.program.rows().len())
             .filter(|&row| self.is_receivable(state, unit, row))
             .map(|row| Choice::Take { row })
             .nth(number)

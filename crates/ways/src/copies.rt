@@ -1,4 +1,5 @@
-ghost use Rattle.std.specs.Prelude.{◌≡◌, ◌<◌, ◌≤◌, ◌++◌, map, drop, OnOk, vec_len, slice_range};
+ghost use Rattle.std.specs.Prelude.{◌≡◌, ◌<◌, ◌≤◌, ◌++◌, map, drop, OnOk, OnErr, vec_len, slice_range};
+ghost use Rattle.lists.specs.Words.{Extends};
 ghost use Rattle.std.specs.List.{range_with_len, flat_map};
 ghost use Rattle.lists.specs.Products.{product};
 ghost use Rattle.ways.specs.Nets.{net_of, unit_at};
@@ -38,7 +39,8 @@ fn add_copies(
 ) -> Result<(), AllocError>
     requires in_order { from ≤ to }
     requires there { to ≤ vec_len steps.old }
-    ensures { OnOk result (steps.new.items ≡ steps.old.items ++ map (placing slot unit) (slice_range steps.old.items from to)) }
+    ensures adds { OnOk result (steps.new.items ≡ steps.old.items ++ map (placing slot unit) (slice_range steps.old.items from to)) }
+    ensures begins { OnErr result (Extends steps.old.items steps.new.items) }
 {
     for number in from..to {
         let step = placing(steps[number], slot, unit);
@@ -61,14 +63,15 @@ impl Table {
         steps: &mut Vec<Listed>,
     ) -> Result<(), AllocError>
         requires there { from ≤ vec_len steps.old }
-        ensures { OnOk result (steps.new.items ≡ steps.old.items ++ flat_map (λ c. map (placing slot (chosen (net_of self.now) (unit_at state.now slot) c sent)) (drop from steps.old.items)) (drop 1 (choices (net_of self.now) state.now sender slot))) }
+        ensures adds { OnOk result (steps.new.items ≡ steps.old.items ++ flat_map (λ c. map (placing slot (chosen (net_of self.now) (unit_at state.now slot) c sent)) (drop from steps.old.items)) (drop 1 (choices (net_of self.now) state.now sender slot))) }
+        ensures begins { OnErr result (Extends steps.old.items steps.new.items) }
     {
         if !self.is_listener(state, sender, slot) {
             return Ok(());
         }
         let to = steps.len();
         let before = unit_at(state, slot);
-        for row in 0..self.program.rows.len() {
+        for row in 0..self.program.rows().len() {
             let taken = self.row(row);
             if taken.is_receivable(&before) {
                 let after = taken.taken_by(&before, sent);
@@ -88,7 +91,7 @@ impl Table {
     ) -> Listed
         ensures { result ≡ listed_of (net_of self.now) state.now value (Act unit row all_stay) }
     {
-        let is_in_range = self.program.range.holds(value);
+        let is_in_range = self.program.range().holds(value);
         Listed {
             label: self.act_label(&unit_at(state, unit), self.row(row).action),
             landing: is_in_range.then(|| self.taken_alone(state, unit, row, value)),
@@ -105,7 +108,8 @@ impl Table {
         value: Value,
         steps: &mut Vec<Listed>,
     ) -> Result<(), AllocError>
-        ensures { OnOk result (steps.new.items ≡ steps.old.items ++ map (listed_of (net_of self.now) state.now value) (map (Act sender row) (product (map (choices (net_of self.now) state.now sender) (range_with_len 0 6))))) }
+        ensures adds { OnOk result (steps.new.items ≡ steps.old.items ++ map (listed_of (net_of self.now) state.now value) (map (Act sender row) (product (map (choices (net_of self.now) state.now sender) (range_with_len 0 6))))) }
+        ensures begins { OnErr result (Extends steps.old.items steps.new.items) }
     {
         let from = steps.len();
         let sent = incoming(&unit_at(state, sender), self.row(row).action, value);

@@ -7,6 +7,7 @@ mod choices;
 mod copies;
 pub mod landing;
 mod listing;
+mod parts;
 pub mod receiving;
 pub mod slots;
 pub mod table;

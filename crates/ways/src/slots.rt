@@ -28,6 +28,6 @@ impl Table {
     pub(crate) fn row(&self, number: usize) -> &Row
         ensures { result.now ≡ row_at (net_of self.now) number }
     {
-        self.program.rows.get(number).unwrap_or(&IDLE)
+        self.program.rows().get(number).unwrap_or(&IDLE)
     }
 }

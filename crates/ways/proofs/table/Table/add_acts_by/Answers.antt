@@ -8,8 +8,8 @@ use Rattle.ways.specs.Landings.{listed_of}
 use Rattle.ways.proofs.Taken.{acts_sent, acts_alone}
 use Rattle.ways.proofs.table.Table.add_acts_by.Goals as goal
 
-pub returns-in-Broadcast : goal.returns-in-Broadcast
-returns-in-Broadcast c =
+pub returns-in-Broadcast-clause-adds : goal.returns-in-Broadcast-clause-adds
+returns-in-Broadcast-clause-adds c =
     let n = net_of c.args.self.now in
     let s = c.args.state.now in
     let same = to_z-of_z w8 c.args.value c.ranges.value in
@@ -18,10 +18,10 @@ returns-in-Broadcast c =
     (λ x h.
     h ∙ ap (λ ws. vec_items c.args.steps.now ++ map (listed_of n s (to_z w8 (of_z w8 c.args.value))) ws) (sym (acts_sent n s c.args.unit c.args.row c.row-taken.result.now c.row-taken.ensures able c.in-Broadcast.field-0 c.in-Broadcast.is))
     ∙ ap (λ z. vec_items c.args.steps.now ++ map (listed_of n s z) (acts_by n s c.args.unit c.args.row)) same)
-    c.add_combinations.ensures
+    c.add_combinations.ensures.adds
 
-pub returns-in_ok-add_listed : goal.returns-in_ok-add_listed
-returns-in_ok-add_listed c =
+pub returns-in_ok-add_listed-clause-adds : goal.returns-in_ok-add_listed-clause-adds
+returns-in_ok-add_listed-clause-adds c =
     let n = net_of c.args.self.now in
     let s = c.args.state.now in
     let same = to_z-of_z w8 c.args.value c.ranges.value in

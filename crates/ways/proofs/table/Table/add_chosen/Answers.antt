@@ -8,6 +8,7 @@ use Rattle.ways.specs.Copies.{placing}
 use Rattle.ways.specs.declared.way.Choice.{Choice}
 use Rattle.ways.specs.declared.way.Choice.TheVariants.{Take}
 use Rattle.ways.proofs.Copied.{blocks_yes, blocks_no, still_there}
+use Rattle.lists.proofs.Extending.{err_extends, extends_then}
 use Rattle.ways.proofs.table.Table.add_chosen.Goals as goal
 use Rattle.ways.proofs.table.Table.add_chosen.Goals.{then-is_receivable+in_ok-add_copies, else-is_receivable}
 
@@ -27,6 +28,9 @@ loop-row-preserved c =
           (let after = w.taken_by-after.ensures ∙ ap (λ y. taken y c.row-taken.result.now v) c.unit_at-before.ensures ∙ ap (λ r. taken x r v) c.row-taken.ensures in
           rw w.steps-is
           (blocks_yes p Take f c.loop-row.row was _ c.loop-row.invariant _ _ can w.if-is_receivable.true
-          (IfOk-at_ok _ w.in_ok-add_copies.was w.add_copies.ensures ∙ ap (λ zs. vec_items c.loop-row.steps ++ map (placing c.args.slot w.taken_by-after.result) zs) same ∙ ap (λ y. vec_items c.loop-row.steps ++ map (placing c.args.slot y) (drop c.args.from was)) after)))
+          (IfOk-at_ok _ w.in_ok-add_copies.was w.add_copies.ensures.adds ∙ ap (λ zs. vec_items c.loop-row.steps ++ map (placing c.args.slot w.taken_by-after.result) zs) same ∙ ap (λ y. vec_items c.loop-row.steps ++ map (placing c.args.slot y) (drop c.args.from was)) after)))
       | else-is_receivable w ↦ rw w.steps-is (blocks_no p Take f c.loop-row.row was _ c.loop-row.invariant _ can w.if-is_receivable.false)
     ]
+
+pub returns-in_err-add_copies-clause-begins : goal.returns-in_err-add_copies-clause-begins
+returns-in_err-add_copies-clause-begins c = err_extends _ _ _ (extends_then _ _ _ (_, c.loop-row.invariant) c.in_err-add_copies.ensures.begins)

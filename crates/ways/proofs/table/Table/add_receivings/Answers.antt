@@ -1,26 +1,16 @@
-use Rattle.std.proofs.Common.{◌≡◌, ◌++◌, map, vec_items, ap, ◌∙◌, arith}
-use Rattle.std.specs.List.{range_with_len, flat_map}
+use Rattle.std.proofs.Common.{map, vec_items, ap, ◌∙◌, ◌++◌}
 use Rattle.std.proofs.lemmas.List.{map-append}
-use Rattle.std.proofs.lemmas.Result.{IfOk-at_ok}
-use Rattle.lists.proofs.Adding.{adding_more}
+use Rattle.std.proofs.lemmas.Result.{IfOk-weaker}
 use Rattle.ways.specs.Nets.{net_of}
-use Rattle.ways.specs.Receivings.{received_by, receivings_of, receivings}
+use Rattle.ways.specs.Receivings.{received_by, receivings}
 use Rattle.ways.proofs.Received.{receivings_are}
 use Rattle.ways.proofs.table.Table.add_receivings.Goals as goal
 
-pub loop-unit-preserved : goal.loop-unit-preserved
-loop-unit-preserved c =
-    adding_more (receivings_of (net_of c.args.self.now) c.args.state.now) _ _ _ c.loop-unit.invariant _ (IfOk-at_ok _ c.in_ok-add_receivings_of.was c.add_receivings_of.ensures)
-
-pub returns-clause-adds : goal.returns-clause-adds
-returns-clause-adds c =
-    let n = net_of c.args.self.now in
-    let all : c.loop-unit.unit ≡ c.args.self.now.units = omega (arith, c.loop-unit-test.false, c.loop-unit.auto.unit-end) in
-    c.loop-unit.invariant ∙ ap (λ m. vec_items c.args.found.now ++ flat_map (receivings_of n c.args.state.now) (range_with_len 0 m)) all
-
-pub returns-clause-told : goal.returns-clause-told
-returns-clause-told c =
+pub returns-else-is_err-clause-told : goal.returns-else-is_err-clause-told
+returns-else-is_err-clause-told c =
     let n = net_of c.args.self.now in
     let s = c.args.state.now in
     let told = map (received_by n s) (vec_items c.args.found.now) in
-    ap (map (received_by n s)) (returns-clause-adds c) ∙ map-append (received_by n s) (vec_items c.args.found.now) (receivings n s) ∙ ap (λ xs. told ++ xs) (receivings_are n s)
+    IfOk-weaker c.add_receivings_in_turn-added.result _ _
+    (λ _ h. ap (map (received_by n s)) h ∙ map-append (received_by n s) (vec_items c.args.found.now) (receivings n s) ∙ ap (λ xs. told ++ xs) (receivings_are n s))
+    c.add_receivings_in_turn-added.ensures.adds

@@ -12,4 +12,4 @@ returns c =
     let rows = length (net_of c.args.self.now).rows in
     let can = receivable_at (net_of c.args.self.now) c.args.state.now c.args.unit in
     sym (option_map_id c.nth.result)
-    ∙ nth_from_yields_List _ _ _ c.nth.ensures.ran (YieldsList-from_map _ Take (YieldsList-at c.map.ensures.source (YieldsList-from_filter _ can (YieldsList-from_range 0 c.len.result rows (cc) (search rules)) c.filter.ensures.closure (λ x b q k. search (rules, tests)))) c.map.ensures.closure (λ x r q k. search rules))
+    ∙ nth_from_yields_List _ _ _ c.nth.ensures.ran (YieldsList-from_map _ Take (YieldsList-at c.map.ensures.source (YieldsList-from_filter _ can (YieldsList-from_range 0 (length c.rows.result.now) rows (cc) (search rules)) c.filter.ensures.closure (λ x b q k. search (rules, tests)))) c.map.ensures.closure (λ x r q k. search rules))
