@@ -1,5 +1,5 @@
 -- Lists that got others behind them. Assumes nothing.
-use Rattle.std.proofs.Common.{◌≡◌, ◌≤◌, List, [], ◌++◌, OnErr, Ok, Err, Result, length, take, sym, refl, ap, ◌∙◌, append_assoc, arith}
+use Rattle.std.proofs.Common.{◌≡◌, ◌≤◌, List, [], ◌++◌, OnOk, OnErr, Ok, Err, Result, length, take, sym, refl, ap, ◌∙◌, append_assoc, arith}
 use Rattle.std.proofs.lemmas.List.{append-nil, take_all, take-append-le}
 use Rattle.lists.specs.Words.{Extends}
 
@@ -17,3 +17,8 @@ extends_cut a b p = ap (take (length a)) p.1 ∙ take-append-le (length a) a p.0
 pub err_extends : {X T E : Type 0} (r : Result T E) (a b : List X) → Extends a b → OnErr r (Extends a b)
 err_extends (Ok x) a b p = tt
 err_extends (Err e) a b p = p
+
+-- of a call that adds where it succeeds, and else changes nothing
+pub extends_either : {X T E : Type 0} (r : Result T E) (a b xs : List X) → OnOk r (b ≡ a ++ xs) → OnErr r (b ≡ a) → Extends a b
+extends_either (Ok x) a b xs adds leaves = (xs, adds)
+extends_either (Err e) a b xs adds leaves = ([], leaves ∙ sym (append-nil a))

@@ -1,5 +1,5 @@
 -- How many movements there may be. Assumes nothing.
-use Rattle.std.proofs.Common.{◌≡◌, ℕ, ◌+◌, ◌*◌, ◌≤◌, Bool, List, length, filter, ap, ◌∙◌, arith}
+use Rattle.std.proofs.Common.{◌≡◌, ℕ, ◌+◌, ◌*◌, ◌≤◌, Bool, List, map, length, filter, ap, ◌∙◌, arith}
 use Rattle.std.specs.List.{range_with_len, flat_map}
 use Rattle.std.proofs.lemmas.List.{length-map, length-append}
 use Rattle.std.proofs.lemmas.List.Concat.{length-flat_map}
@@ -15,6 +15,10 @@ use Rattle.network.specs.Meanings.{set_of, set_numbers, may_move, movements_of}
 
 filter_least : {X : Type 0} (p : X → Bool) (xs : List X) (n : ℕ) → length xs ≡ n → length (filter p xs) ≤ n
 filter_least p xs n e = omega (arith, length-filter p xs, count_by-le-length p xs, e)
+
+-- no more of the first numbers are kept than there are
+pub kept_few : (p : ℕ → Bool) (k : ℕ) → length (map (λ b. b) (filter p (range_with_len 0 k))) ≤ k
+kept_few p k = omega (arith, length-map (filter p (range_with_len 0 k)) (λ b. b), filter_least p (range_with_len 0 k) k (length-range_with_len 0 k))
 
 set_count : length set_numbers ≡ 256
 set_count = ap length numbers_are ∙ length-range_with_len 0 256

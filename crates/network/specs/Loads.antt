@@ -1,8 +1,8 @@
 -- A network loaded from bytes: its questions, and what a refused one is refused with.
-use Rattle.std.specs.Prelude.{ℕ, List, ◌++◌, ℤ, Some, Option}
+use Rattle.std.specs.Prelude.{ℕ, List, ◌++◌, ℤ, codes}
 use Rattle.questions.specs.Asking.{Question, refuse}
 use Rattle.questions.specs.declared.Refusal.{Refusal}
-use Rattle.tables.specs.Table.{table_refusal}
+use Rattle.tables.specs.Table.{table_refusal, fault_text}
 use Rattle.model.specs.Placements.{units_asked}
 use Rattle.model.specs.declared.group_set.GroupSet.{GroupSet}
 use Rattle.rows.specs.Programs.{rows_asked, rows_of}
@@ -14,9 +14,14 @@ use Rattle.network.specs.declared.fault.NetworkFault.TheVariants.{Units, Rows}
 abbrev pub network_asked : ℤ → ℤ → ℕ → List ℕ → List (Question Refusal)
 network_asked lo hi units bytes = units_asked units ++ rows_asked lo hi bytes
 
-abbrev pub network_refusal : NetworkFault → Option Refusal
-network_refusal Units = Some (refuse 5)
+abbrev pub network_refusal : NetworkFault → Refusal
+network_refusal Units = refuse 5
 network_refusal (Rows f) = table_refusal 6 7 f
+
+-- what a fault is called
+abbrev pub network_fault_text : NetworkFault → List ℕ
+network_fault_text Units = codes "there are not 1 to 6 units"
+network_fault_text (Rows f) = fault_text f
 
 -- the network of these bytes
 abbrev pub net_in : ℤ → ℤ → GroupSet → ℕ → List ℕ → Net

@@ -15,7 +15,7 @@ use ways::table::Table;
 fn is_in_range(table: &Table, unit: &UnitState) -> bool
     ensures { result ≡ unit_in_range (net_of table.now) unit.now }
 {
-    let range = &table.program.range;
+    let range = table.program().range();
     unit.location <= 63 && range.holds(unit.first) && range.holds(unit.second)
 }
 
@@ -29,7 +29,7 @@ fn is_slot_lawful(table: &Table, state: &State, slot: usize) -> bool
     ensures { result ≡ slot_lawful (net_of table.now) state.now slot }
 {
     let unit = unit_at(state, slot);
-    if slot < table.units {
+    if slot < table.units() {
         is_in_range(table, &unit)
     } else {
         is_zero(&unit)
@@ -47,12 +47,12 @@ pub(crate) fn union_shown(table: &Table, state: &State) -> GroupSet
     ensures { result ≡ union_shown (net_of table.now) state.now }
 {
     // The empty set is written out: from `GroupSet::default()` the check does not see that the fold begins at it.
-    let union = state.units[..table.units]
+    let union = state.units[..table.units()]
         .iter()
         .fold(GroupSet { bits: 0 }, |union, unit| {
             union.union(unit.groups)
         });
-    union.part_within(table.free)
+    union.part_within(table.free())
 }
 
 impl<R: Rule> Network<R> {

@@ -1,24 +1,22 @@
 ghost use Rattle.std.specs.Prelude.{◌≡◌, IfOk};
 ghost use Rattle.questions.specs.Asking.{first_no, refusal_of};
 ghost use Rattle.ways.specs.Nets.{net_of};
-ghost use Rattle.network.specs.Meanings.{network_meaning};
 ghost use Rattle.network.specs.Loads.{network_asked, network_refusal, net_in};
 
 use crate::fault::NetworkFault;
 use crate::movement::admitted;
 use crate::network::Network;
 use model::group_set::GroupSet;
+use model::placement::UnitCount;
 use model::range::Range;
-use model::unit_state::UNITS;
 use rows::program::Program;
 use rules::rule::Rule;
-use std::alloc::Global;
 use ways::table::Table;
 
 impl<R: Rule> Network<R> {
-    /// The network of a range, the free groups, a count of units, the bytes of its rows and a rule.
+    /// The network of a range, the free groups, a count of units, the bytes of its rows and a rule, or a refusal with
+    /// question 5, 6 or 7.
     pub fn load(
-        heap: Global,
         range: Range,
         free: GroupSet,
         units: usize,
@@ -28,22 +26,30 @@ impl<R: Rule> Network<R> {
     where
         R: Drop,
         ensures refuses { refusal_of network_refusal result ≡ first_no (network_asked range.lo range.hi units rows.now) }
-        ensures loads { IfOk result (λ n. network_meaning (net_of n.table) (R.Rule.allowed n.rule) ≡ network_meaning (net_in range.lo range.hi free units rows.now) (R.Rule.allowed rule)) }
+        ensures table { IfOk result (λ n. net_of n.table ≡ net_in range.lo range.hi free units rows.now) }
+        ensures rule { IfOk result (λ n. n.rule ≡ rule) }
     {
-        if !(1..=UNITS).contains(&units) {
-            return Err(NetworkFault::Units);
-        }
-        let program = Program::load(heap, range, rows)?;
-        // Memory comes last, so that its want hides no refusal.
-        let sets = admitted(heap, &rule)?;
+        let units = UnitCount::new(units)?;
+        let program = Program::load(range, rows)?;
+        let sets = admitted(&rule);
         Ok(Network {
-            table: Table {
-                free,
-                units,
-                program,
-            },
+            table: Table::new(free, units, program),
             rule,
             sets,
         })
+    }
+
+    /// Its units and the program that they follow.
+    pub fn table(&self) -> &Table
+        ensures { result.now ≡ self.now.table }
+    {
+        &self.table
+    }
+
+    /// The rule under which its units move.
+    pub fn rule(&self) -> &R
+        ensures { result.now ≡ self.now.rule }
+    {
+        &self.rule
     }
 }

@@ -1,38 +1,36 @@
-ghost use Rattle.std.specs.Prelude.{◌≡◌, ◌*◌, ◌≤◌, ◌<◌, ◌++◌, true, map, length, filter, IfOk, OnOk};
+ghost use Rattle.std.specs.Prelude.{◌≡◌, ◌*◌, ◌≤◌, ◌<◌, ◌++◌, true, map, length, filter, OnOk, OnErr};
 ghost use Rattle.std.specs.List.{slice_get};
-ghost use Rattle.lists.specs.Words.{through};
+ghost use Rattle.lists.specs.Words.{through, Extends};
 ghost use Rattle.model.specs.Placements.{sets_of};
 ghost use Rattle.ways.specs.declared.way.Way.TheVariants.{Move};
 ghost use Rattle.ways.specs.Landings.{moved, placed, listed_of};
 ghost use Rattle.ways.specs.Nets.{net_of, unit_at};
 ghost use Rattle.network.specs.Meanings.{set_of, set_numbers, may_move, movements_of, movements, lawful};
 
-use crate::network::Network;
+use crate::network::{Network, SETS};
+use arrayvec::ArrayVec;
 use lists::blocks::locate;
 use model::group_set::GroupSet;
 use model::placement::Placement;
 use model::state::State;
 use model::value::Value;
 use rules::rule::Rule;
-use std::alloc::{AllocError, Global};
+use std::alloc::AllocError;
 use systems::listed::{Listed, add_listed};
 use ways::slots::unit_at;
 use ways::way::Way;
 
-/// How many sets there are: room for that many is room for all that a rule admits.
-const SETS: usize = 256;
-
 /// The sets that the rule admits, in order.
-pub(crate) fn admitted<R: Rule>(heap: Global, rule: &R) -> Result<Vec<u8>, AllocError>
-    ensures { IfOk result (λ v. v.items ≡ filter (λ b. R.Rule.admitted rule.now (set_of b)) set_numbers) }
+pub(crate) fn admitted<R: Rule>(rule: &R) -> ArrayVec<u8, SETS>
+    ensures { result.items ≡ filter (λ b. R.Rule.admitted rule.now (set_of b)) set_numbers }
 {
-    let mut sets = Vec::with_capacity(heap, SETS)?;
+    let mut sets = ArrayVec::new();
     for bits in 0..=u8::MAX {
         if rule.admits(GroupSet { bits }) {
-            sets.push(bits)?;
+            sets.push(bits);
         }
     }
-    Ok(sets)
+    sets
 }
 
 /// The way in which the unit changes to the set with this number, if there is one.
@@ -73,7 +71,7 @@ impl<R: Rule> Network<R> {
         requires lawful { lawful (net_of self.now.table) (R.Rule.allowed self.now.rule) state.now ≡ true }
         ensures { unit < self.now.table.units → result ≡ may_move (net_of self.now.table) (R.Rule.allowed self.now.rule) state.now unit set }
     {
-        let free = self.table.free;
+        let free = self.table.free();
         set != old
             && set.part_within(free) == old.part_within(free)
             && self.allows_with(state, placement, unit, set)
@@ -122,7 +120,7 @@ impl<R: Rule> Network<R> {
     {
         let placement = self.table.placement(state);
         let mut count = 0;
-        for unit in 0..self.table.units {
+        for unit in 0..self.table.units() {
             count += self.movement_count_of(state, &placement, unit);
         }
         count
@@ -132,7 +130,7 @@ impl<R: Rule> Network<R> {
         requires { lawful (net_of self.now.table) (R.Rule.allowed self.now.rule) state.now ≡ true }
         ensures { result ≡ slice_get (movements (net_of self.now.table) (R.Rule.allowed self.now.rule) state.now) number }
     {
-        let units = self.table.units;
+        let units = self.table.units();
         let placement = self.table.placement(state);
         let (unit, left) = locate(
             units,
@@ -154,10 +152,11 @@ impl<R: Rule> Network<R> {
         requires placed { sets_of placement.now ≡ placed (net_of self.now.table) state.now }
         requires lawful { lawful (net_of self.now.table) (R.Rule.allowed self.now.rule) state.now ≡ true }
         requires unit { unit < self.now.table.units }
-        ensures { OnOk result (steps.new.items ≡ steps.old.items ++ map (listed_of (net_of self.now.table) state.now value) (movements_of (net_of self.now.table) (R.Rule.allowed self.now.rule) state.now unit)) }
+        ensures adds { OnOk result (steps.new.items ≡ steps.old.items ++ map (listed_of (net_of self.now.table) state.now value) (movements_of (net_of self.now.table) (R.Rule.allowed self.now.rule) state.now unit)) }
+        ensures begins { OnErr result (Extends steps.old.items steps.new.items) }
     {
         let old = unit_at(state, unit).groups;
-        for &bits in &self.sets {
+        for &bits in self.sets.as_slice() {
             let set = GroupSet { bits };
             if self.may_move(state, placement, unit, old, set) {
                 add_listed(steps, self.table.listed_movement(state, unit, set, value))?;
@@ -174,10 +173,11 @@ impl<R: Rule> Network<R> {
         steps: &mut Vec<Listed>,
     ) -> Result<(), AllocError>
         requires { lawful (net_of self.now.table) (R.Rule.allowed self.now.rule) state.now ≡ true }
-        ensures { OnOk result (steps.new.items ≡ steps.old.items ++ map (listed_of (net_of self.now.table) state.now value) (movements (net_of self.now.table) (R.Rule.allowed self.now.rule) state.now)) }
+        ensures adds { OnOk result (steps.new.items ≡ steps.old.items ++ map (listed_of (net_of self.now.table) state.now value) (movements (net_of self.now.table) (R.Rule.allowed self.now.rule) state.now)) }
+        ensures begins { OnErr result (Extends steps.old.items steps.new.items) }
     {
         let placement = self.table.placement(state);
-        for unit in 0..self.table.units {
+        for unit in 0..self.table.units() {
             self.add_movements_of(state, &placement, unit, value, steps)?;
         }
         Ok(())

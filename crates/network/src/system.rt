@@ -1,8 +1,8 @@
-ghost use Rattle.std.specs.Prelude.{◌≡◌, true, cond, IfOk, None};
+ghost use Rattle.std.specs.Prelude.{◌≡◌, ◌++◌, true, cond, map, OnOk, OnErr, None};
 ghost use Rattle.std.specs.List.{slice_get};
-ghost use Rattle.lists.specs.Words.{through};
+ghost use Rattle.lists.specs.Words.{through, Extends};
 ghost use Rattle.model.specs.Ranges.{in_range};
-ghost use Rattle.ways.specs.Landings.{landing_of};
+ghost use Rattle.ways.specs.Landings.{landing_of, listed_of};
 ghost use Rattle.ways.specs.Nets.{net_of};
 ghost use Rattle.ways.specs.Receivings.{received_by};
 ghost use Rattle.network.specs.Meanings.{lawful, ways, lawful_ways, network_meaning};
@@ -16,7 +16,7 @@ use model::range::Range;
 use model::state::State;
 use model::value::Value;
 use rules::rule::Rule;
-use std::alloc::{AllocError, Global};
+use std::alloc::AllocError;
 use systems::System;
 use systems::listed::Listed;
 use ways::receiving::Receiving;
@@ -47,24 +47,26 @@ impl<R: Rule> Network<R> {
         }
     }
 
-    /// The ways of all steps, one after the other.
-    pub fn ways(&self, heap: Global, state: &State) -> Result<Vec<Way>, AllocError>
-        ensures { IfOk result (λ v. v.items ≡ lawful_ways (net_of self.now.table) (R.Rule.allowed self.now.rule) state.now) }
+    /// Adds the steps of a lawful state, as they are listed at the value.
+    fn add_steps(
+        &self,
+        state: &State,
+        value: Value,
+        steps: &mut Vec<Listed>,
+    ) -> Result<(), AllocError>
+        requires { lawful (net_of self.now.table) (R.Rule.allowed self.now.rule) state.now ≡ true }
+        ensures adds { OnOk result (steps.new.items ≡ steps.old.items ++ map (listed_of (net_of self.now.table) state.now value) (ways (net_of self.now.table) (R.Rule.allowed self.now.rule) state.now)) }
+        ensures begins { OnErr result (Extends steps.old.items steps.new.items) }
     {
-        let mut ways = Vec::new(heap);
-        for number in 0..self.step_count(state) {
-            if let Some(way) = self.way(state, number as usize) {
-                ways.push(way)?;
-            }
-        }
-        Ok(ways)
+        self.add_movements(state, value, steps)?;
+        self.table.add_acts(state, value, steps)
     }
 
     /// Where a way lands at a value; none where there is no way, or the value is out of range.
     fn landing_of(&self, state: &State, way: Option<Way>, value: Value) -> Option<State>
         ensures { result ≡ cond (in_range self.now.table.program.range.lo self.now.table.program.range.hi value) (through (λ x. landing_of (net_of self.now.table) state.now x value) way) None }
     {
-        if !self.table.program.range.holds(value) {
+        if !self.table.program().range().holds(value) {
             return None;
         }
         let way = way?;
@@ -82,7 +84,7 @@ impl<R: Rule> System for Network<R> {
     ghost keeps = { λ x. Steps.keeps (net_of x.table) (R.Rule.allowed x.rule) x.table.program.range.ordered };
 
     fn range(&self) -> Range {
-        self.table.program.range
+        self.table.program().range()
     }
 
     fn is_lawful(&self, state: &State) -> bool {
@@ -120,8 +122,12 @@ impl<R: Rule> System for Network<R> {
         if !self.is_state_lawful(state) {
             return Ok(());
         }
-        self.add_movements(state, value, steps)?;
-        self.table.add_acts(state, value, steps)
+        let before = steps.len();
+        let added = self.add_steps(state, value, steps);
+        if added.is_err() {
+            steps.truncate(before);
+        }
+        added
     }
 
     fn receives(&self, state: &State, receives: &mut Vec<Receiving>) -> Result<(), AllocError> {

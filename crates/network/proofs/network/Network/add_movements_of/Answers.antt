@@ -9,6 +9,7 @@ use Rattle.ways.specs.Landings.{listed_of}
 use Rattle.ways.specs.declared.way.Way.TheVariants.{Move}
 use Rattle.network.specs.Meanings.{set_numbers, may_move, set_of}
 use Rattle.network.proofs.Admitted.{moves_admitted}
+use Rattle.lists.proofs.Extending.{err_extends}
 use Rattle.network.proofs.network.Network.add_movements_of.Goals as goal
 use Rattle.network.proofs.network.Network.add_movements_of.Goals.{then-may_move+in_ok-add_listed, else-may_move}
 
@@ -19,7 +20,7 @@ loop-bits-preserved g c =
     let v = to_z w8 (of_z w8 c.args.value) in
     let may = λ (b : ℕ). may_move n (g.R.Rule.allowed c.args.self.now.rule) s c.args.unit (set_of b) in
     let list = λ (b : ℕ). listed_of n s v (Move c.args.unit (set_of b)) in
-    let bs = c.deref-bits-items.result.now in
+    let bs = c.as_slice-bits-items.result.now in
     let b = get_or bs c.loop-bits.bits-index 0 in
     let at = take_more bs c.loop-bits.bits-index 0 c.loop-bits-test.true in
     elim c.if-may_move.branch [
@@ -30,8 +31,8 @@ loop-bits-preserved g c =
       | else-may_move w ↦ ap vec_items w.steps-is ∙ taking_no may list bs c.loop-bits.bits-index b at (vec_items c.args.steps.now) (vec_items c.loop-bits.steps) c.loop-bits.invariant (sym (w.if-may_move.ensures c.requires.unit))
     ]
 
-pub returns : goal.returns
-returns g c =
+pub returns-clause-adds : goal.returns-clause-adds
+returns-clause-adds g c =
     let own = c.args.self.now in
     let n = net_of own.table in
     let allowed = g.R.Rule.allowed own.rule in
@@ -41,6 +42,9 @@ returns g c =
     let was = vec_items c.args.steps.now in
     let same = to_z-of_z w8 c.args.value c.ranges.value in
     (rw same at c.loop-bits.invariant)
-    ∙ ap (λ bs. was ++ map (λ b. listed_of n s c.args.value (move b)) (filter may bs)) (take_all c.loop-bits.bits-index c.deref-bits-items.result.now c.loop-bits-test.false ∙ c.deref-bits-items.ensures.value)
-    ∙ ap (λ bs. was ++ map (λ b. listed_of n s c.args.value (move b)) bs) (moves_admitted n allowed (g.R.Rule.admitted own.rule) s c.args.unit (vec_items own.sets) own.table.most c.requires.unit (g.met.R.Rule.bars own.rule) own.listed)
+    ∙ ap (λ bs. was ++ map (λ b. listed_of n s c.args.value (move b)) (filter may bs)) (take_all c.loop-bits.bits-index c.as_slice-bits-items.result.now c.loop-bits-test.false ∙ c.as_slice-bits-items.ensures.value)
+    ∙ ap (λ bs. was ++ map (λ b. listed_of n s c.args.value (move b)) bs) (moves_admitted n allowed (g.R.Rule.admitted own.rule) s c.args.unit (own.sets.items) own.table.most c.requires.unit (g.met.R.Rule.bars own.rule) own.listed)
     ∙ ap (λ ls. was ++ ls) (sym (map-map (listed_of n s c.args.value) move (filter may set_numbers)))
+
+pub returns-in_err-add_listed-clause-begins : goal.returns-in_err-add_listed-clause-begins
+returns-in_err-add_listed-clause-begins g c = err_extends _ _ _ (_, c.in_err-add_listed.ensures.leaves ∙ c.loop-bits.invariant)

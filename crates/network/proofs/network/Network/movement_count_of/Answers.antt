@@ -1,4 +1,4 @@
-use Rattle.std.proofs.Common.{ℕ, vec_items, length, sym, ap, ◌∙◌, rules, tests}
+use Rattle.std.proofs.Common.{ℕ, length, sym, ap, ◌∙◌, rules, tests}
 use Rattle.std.specs.List.{filter}
 use Rattle.std.proofs.lemmas.List.{length-map}
 use Rattle.std.proofs.lemmas.Iterator.{YieldsList-from_slice}
@@ -16,6 +16,6 @@ returns g c =
     let allowed = g.R.Rule.allowed own.rule in
     let may = λ (b : ℕ). may_move n allowed c.args.state.now c.args.unit (set_of b) in
     λ within.
-    count_from_yields_List _ _ c.count.ensures.ran (YieldsList-from_filter _ may (YieldsList-at c.filter.ensures.source (YieldsList-from_slice (vec_items own.sets) (c.iter.ensures.rest ∙ c.deref.ensures.value))) c.filter.ensures.closure (λ x b q k. search (rules, tests)))
-    ∙ ap length (moves_admitted n allowed (g.R.Rule.admitted own.rule) c.args.state.now c.args.unit (vec_items own.sets) own.table.most within (g.met.R.Rule.bars own.rule) own.listed)
+    count_from_yields_List _ _ c.count.ensures.ran (YieldsList-from_filter _ may (YieldsList-at c.filter.ensures.source (YieldsList-from_slice (own.sets.items) (c.iter.ensures.rest ∙ c.deref.ensures.0))) c.filter.ensures.closure (λ x b q k. search (rules, tests)))
+    ∙ ap length (moves_admitted n allowed (g.R.Rule.admitted own.rule) c.args.state.now c.args.unit (own.sets.items) own.table.most within (g.met.R.Rule.bars own.rule) own.listed)
     ∙ sym (length-map (filter may set_numbers) (λ b. Move c.args.unit (set_of b)))

@@ -1,4 +1,4 @@
-use Rattle.std.proofs.Common.{ℕ, vec_items, sym, ap, ◌∙◌, rules, tests}
+use Rattle.std.proofs.Common.{ℕ, sym, ap, ◌∙◌, rules, tests}
 use Rattle.std.specs.List.{filter, slice_get}
 use Rattle.std.proofs.lemmas.Iterator.{YieldsList-from_slice}
 use Rattle.std.proofs.lemmas.Iterator.Consumers.{nth_from_yields_List, YieldsList-at, YieldsList-from_filter}
@@ -19,6 +19,6 @@ returns g c =
     let move = λ (b : ℕ). Move c.args.unit (set_of b) in
     let found =
     c.copied-bits.ensures
-    ∙ nth_from_yields_List c.nth.result c.nth.new.self c.args.number c.nth.ensures.ran (YieldsList-from_filter _ may (YieldsList-at c.filter.ensures.source (YieldsList-from_slice (vec_items own.sets) (c.iter.ensures.rest ∙ c.deref.ensures.value))) c.filter.ensures.closure (λ x b q k. search (rules, tests)))
-    ∙ ap (λ bs. slice_get bs c.args.number) (moves_admitted n allowed (g.R.Rule.admitted own.rule) c.args.state.now c.args.unit (vec_items own.sets) own.table.most c.requires.unit (g.met.R.Rule.bars own.rule) own.listed) in
+    ∙ nth_from_yields_List c.nth.result c.nth.new.self c.args.number c.nth.ensures.ran (YieldsList-from_filter _ may (YieldsList-at c.filter.ensures.source (YieldsList-from_slice (own.sets.items) (c.iter.ensures.rest ∙ c.deref.ensures.0))) c.filter.ensures.closure (λ x b q k. search (rules, tests)))
+    ∙ ap (λ bs. slice_get bs c.args.number) (moves_admitted n allowed (g.R.Rule.admitted own.rule) c.args.state.now c.args.unit (own.sets.items) own.table.most c.requires.unit (g.met.R.Rule.bars own.rule) own.listed) in
     c.moving.ensures ∙ ap (through move) found ∙ sym (nth_mapped move (filter may set_numbers) c.args.number)
