@@ -16,7 +16,6 @@ use Rattle.judge.specs.Likeness.{Reply, Answered, Matched, Bisimulation}
 use Rattle.judge.specs.Replies.{has_reply}
 use Rattle.judge.specs.Judged.{say, step_asked, steps_asked, pair_asked, judge_asked, judge_refusal, Judged}
 use Rattle.judge.specs.declared.fault.Fault.{Fault}
-use Rattle.judge.specs.declared.fault.Fault.TheVariants.{Ranges, TooMany, LeftUnlawful, RightUnlawful, Shown, LeftStep, RightStep}
 use Rattle.judge.specs.declared.verdict.Pass.{Pass}
 use Rattle.judge.proofs.Tested.{decides_range, decides_answered}
 
@@ -104,16 +103,6 @@ module _ (c : Compared) (one : OneRange c) (k : ℕ) (p : Pair) where
   matched_pair m =
       sym (pair_none m.left_lawful m.right_lawful m.same_shown (sym (answered_steps c one Left p (m.answered Left))) (sym (answered_steps c one Right p (m.answered Right))))
 
--- every fault stands for a no
-refusal_some : (f : Fault) → (t : Refusal) × (judge_refusal f ≡ Some t)
-refusal_some Ranges = (_, refl)
-refusal_some TooMany = (_, refl)
-refusal_some (LeftUnlawful k) = (_, refl)
-refusal_some (RightUnlawful k) = (_, refl)
-refusal_some (Shown k) = (_, refl)
-refusal_some (LeftStep k i) = (_, refl)
-refusal_some (RightStep k i) = (_, refl)
-
 module _ (c : Compared) where
   pub none_bisimulation : first_no (judge_asked c) ≡ None → Bisimulation c
   none_bisimulation e =
@@ -128,10 +117,10 @@ module _ (c : Compared) where
       (numbered_none (pair_asked c) 0 c.relation (λ k p at. matched_pair c b.one_range (0 + k) p (b.each k p at))))
 
   -- the whole contract of the judge, from what each exit knows
-  pub judged_no : (r : Result Pass Fault) (f : Fault) (t : Refusal) → r ≡ Err f → judge_refusal f ≡ Some t → first_no (judge_asked c) ≡ Some t → Judged c r
-  judged_no r f t e says first =
+  pub judged_no : (r : Result Pass Fault) (f : Fault) → r ≡ Err f → first_no (judge_asked c) ≡ Some (judge_refusal f) → Judged c r
+  judged_no r f e first =
       subst (λ (x : Result Pass Fault). Judged c x) (sym e) (record {
-        refuses = says ∙ sym first;
+        refuses = sym first;
         counts = tt;
         exactly = (λ ok. absurd (false≢true ok), λ b. absurd (some_none _ _ first (bisimulation_none b)));
       })
@@ -141,11 +130,10 @@ module _ (c : Compared) where
 
   -- the loop over the records: what is left to ask has the first no of all. The record is judged by a comparison that is c.
   module _ (own : Compared) (same : own ≡ c) (k : ℕ) (p : Pair) (at : Stands c.relation p k) (inv : first_no (numbered (pair_asked c) k (drop k c.relation)) ≡ first_no (judge_asked c)) where
-    pub pair_refused : (r : Result Pass Fault) (f : Fault) → r ≡ Err f → judge_refusal f ≡ first_no (pair_asked own k p) → Judged c r
+    pub pair_refused : (r : Result Pass Fault) (f : Fault) → r ≡ Err f → Some (judge_refusal f) ≡ first_no (pair_asked own k p) → Judged c r
     pair_refused r f e says =
-        let t = refusal_some f in
         let here = says ∙ ap (λ x. first_no (pair_asked x k p)) same in
-        judged_no r f t.0 e t.1 (sym inv ∙ numbered_here (pair_asked c) c.relation k p t.0 at (sym here ∙ t.1))
+        judged_no r f e (sym inv ∙ numbered_here (pair_asked c) c.relation k p (judge_refusal f) at (sym here))
 
     pub pair_passed : None ≡ first_no (pair_asked own k p) → first_no (numbered (pair_asked c) (k + 1) (drop (k + 1) c.relation)) ≡ first_no (judge_asked c)
     pair_passed none =

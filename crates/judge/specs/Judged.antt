@@ -1,5 +1,5 @@
 -- The judge: the first no among its questions, and what a pass tells.
-use Rattle.std.specs.Prelude.{◌≡◌, ℕ, List, ◌∷◌, ◌++◌, length, is_ok, IfOk, Some, Decides, Option, Result, nat_le, codes}
+use Rattle.std.specs.Prelude.{◌≡◌, ℕ, List, ◌∷◌, ◌++◌, length, is_ok, IfOk, Decides, Result, nat_le, codes}
 use Rattle.std.specs.Fmt.{decimal}
 use Rattle.questions.specs.Asking.{Question, put, ask, numbered, restated, first_no, refusal_of}
 use Rattle.questions.specs.declared.Refusal.{Refusal}
@@ -41,14 +41,14 @@ judge_asked c =
     ∷ put (say 11 Left 0 0) (nat_le (length c.relation) 4096)
     ∷ numbered (pair_asked c) 0 c.relation
 
-abbrev pub judge_refusal : Fault → Option Refusal
-judge_refusal Ranges = Some (say 10 Left 0 0)
-judge_refusal TooMany = Some (say 11 Left 0 0)
-judge_refusal (LeftUnlawful k) = Some (say 12 Left k 0)
-judge_refusal (RightUnlawful k) = Some (say 13 Right k 0)
-judge_refusal (Shown k) = Some (say 14 Left k 0)
-judge_refusal (LeftStep k i) = Some (say 15 Left k i)
-judge_refusal (RightStep k i) = Some (say 16 Right k i)
+abbrev pub judge_refusal : Fault → Refusal
+judge_refusal Ranges = say 10 Left 0 0
+judge_refusal TooMany = say 11 Left 0 0
+judge_refusal (LeftUnlawful k) = say 12 Left k 0
+judge_refusal (RightUnlawful k) = say 13 Right k 0
+judge_refusal (Shown k) = say 14 Left k 0
+judge_refusal (LeftStep k i) = say 15 Left k i
+judge_refusal (RightStep k i) = say 16 Right k i
 
 -- what a fault is called
 abbrev pub fault_text : Fault → List ℕ

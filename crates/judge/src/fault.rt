@@ -32,7 +32,7 @@ fn of_right(refusal: Refusal) -> Refusal
 
 impl Fault {
     pub fn refusal(&self) -> Refusal
-        ensures { Some result ≡ judge_refusal self.now }
+        ensures { result ≡ judge_refusal self.now }
     {
         match *self {
             Fault::Ranges => Refusal::of(10, 0),

@@ -94,7 +94,7 @@ impl<L: System, R: System> Aligned<'_, L, R> {
     {
         let room = room.as_mut()?;
         let (left, right) = (self.comparison.left, self.comparison.right);
-        let lowest = left.range().lo;
+        let lowest = left.range().lo();
         let states = room.index.on(Side::Left);
         list_steps(&mut room.left, left, &pair.left, lowest, states).ok()?;
         let states = room.index.on(Side::Right);

@@ -81,7 +81,7 @@ impl<L: System, R: System> Received<'_, L, R> {
         ensures { Decides result ((v : ℤ) → in_range_of (meant L.System.means R.System.means self.now.held.now.between.now.comparison.now).left v ≡ true → LandsAt (meant L.System.means R.System.means self.now.held.now.between.now.comparison.now) Left self.now.held.now.pair.now self.now.left_step self.now.right_step v) }
     {
         let range = self.held.between.comparison.left.range();
-        (range.lo..=range.hi).all(|value| self.form_record(value))
+        (range.lo()..=range.hi()).all(|value| self.form_record(value))
     }
 }
 

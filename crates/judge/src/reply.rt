@@ -54,7 +54,7 @@ impl<L: System, R: System> Challenge<'_, L, R> {
         ensures { Decides result ((v : ℤ) → in_range_of (meant L.System.means R.System.means self.now.between.now.comparison.now).left v ≡ true → LandsAt (meant L.System.means R.System.means self.now.between.now.comparison.now) self.now.side self.now.pair.now self.now.step reply v) }
     {
         let range = self.between.comparison.left.range();
-        (range.lo..=range.hi).all(|value| self.lands_at(reply, value))
+        (range.lo()..=range.hi()).all(|value| self.lands_at(reply, value))
     }
 
     /// Whether the step `reply` of the pair's state on the opposite side is a reply. Only a receive can land differently by
@@ -69,7 +69,7 @@ impl<L: System, R: System> Challenge<'_, L, R> {
         if is_receive(&self.label) {
             self.lands_at_each(reply)
         } else {
-            self.lands_at(reply, comparison.left.range().lo)
+            self.lands_at(reply, comparison.left.range().lo())
         }
     }
 

@@ -77,13 +77,13 @@ impl System for Toy {
 }
 
 /// The range runs from -2 to 2 or 3.
-fn make(wide: bool, bits: u8, moves: bool) -> Toy {
+fn make(wide: bool, bits: u8, moves: bool) -> Result<Toy, Fail> {
     let hi = if wide { 3 } else { 2 };
-    Toy {
-        range: Range { lo: -2, hi },
+    Ok(Toy {
+        range: Range::new(-2, hi)?,
         groups: GroupSet { bits },
         moves,
-    }
+    })
 }
 
 fn pair() -> Pair {
@@ -102,11 +102,11 @@ fn fault_of(heap: Global, left: Toy, right: Toy) -> Option<Fault> {
 #[test]
 fn passes_with_the_count_of_records(rt: HostRuntime) -> Result<(), Fail> {
     let heap = rt.alloc();
-    let moving = make(false, 1, true);
+    let moving = make(false, 1, true)?;
     let relation = [pair(), pair()];
     assert_eq!(rt; judge(heap, &moving, &moving, &relation)?.count(), 2);
     assert_eq!(rt;
-        judge(heap, &moving, &make(false, 2, false), &[])?.count(),
+        judge(heap, &moving, &make(false, 2, false)?, &[])?.count(),
         0
     );
     Ok(())
@@ -136,23 +136,24 @@ fn faults_in_words(rt: HostRuntime) -> Result<(), Fail> {
 }
 
 #[test]
-fn refuses_with_the_first_no(rt: HostRuntime) {
+fn refuses_with_the_first_no(rt: HostRuntime) -> Result<(), Fail> {
     let heap = rt.alloc();
-    let plain = make(false, 1, false);
+    let plain = make(false, 1, false)?;
     assert_eq!(rt;
-        fault_of(heap, plain, make(true, 2, true)),
+        fault_of(heap, plain, make(true, 2, true)?),
         Some(Fault::Ranges)
     );
     assert_eq!(rt;
-        fault_of(heap, plain, make(false, 2, true)),
+        fault_of(heap, plain, make(false, 2, true)?),
         Some(Fault::Shown { pair: 0 })
     );
     assert_eq!(rt;
-        fault_of(heap, make(false, 1, true), plain),
+        fault_of(heap, make(false, 1, true)?, plain),
         Some(Fault::LeftStep { pair: 0, step: 1 })
     );
     assert_eq!(rt;
-        fault_of(heap, plain, make(false, 1, true)),
+        fault_of(heap, plain, make(false, 1, true)?),
         Some(Fault::RightStep { pair: 0, step: 1 })
     );
+    Ok(())
 }

@@ -22,7 +22,7 @@ use Rattle.judge.proofs.Values.{in_range_lem}
 use Rattle.play.specs.Calls.{play_refusal, if_there, present_asked, step_asked, told_asked, challenge_asked, settle_asked, value_by, value_fits, landings_by, ValueFor, OfSteps, FirstLanding, Settles}
 use Rattle.play.specs.declared.answered.Answered.{Answered}
 use Rattle.play.specs.declared.fault.Fault.{Fault}
-use Rattle.play.specs.declared.fault.Fault.TheVariants.{Ranges, TooMany, NoPair, NoStep, NoReply, Value, Landings}
+use Rattle.play.specs.declared.fault.Fault.TheVariants.{Landings}
 use Rattle.play.specs.declared.level.Level.{Level}
 use Rattle.play.proofs.Facing.{step_there, all_yes, record_there, then_asked}
 
@@ -107,20 +107,10 @@ more_told c play v f r =
     more_step (steps_on (opposed play.side) c p) play.reply (λ y. put (refuse 20) (value_fits c x.label v) ∷ []) (λ y. put (refuse 20) (value_fits c x.label v) ∷ f x y) r (λ y.
     more_cond (value_fits c x.label v) None (first_no (f x y)) (refuse 20) r (λ e. absurd (some_none _ r e refl)))))
 
-refusal_some : (f : Fault) → (r : Refusal) × (play_refusal f ≡ Some r)
-refusal_some Ranges = (_, refl)
-refusal_some TooMany = (_, refl)
-refusal_some NoPair = (_, refl)
-refusal_some NoStep = (_, refl)
-refusal_some NoReply = (_, refl)
-refusal_some Value = (_, refl)
-refusal_some Landings = (_, refl)
-
 module _ (c : Compared) (play : Answered) (v : ℤ) where
-  pub settle_refused : (f : Fault) → play_refusal f ≡ first_no (told_asked c play v (λ _ _. [])) → Settles c play v (Err (record { play = play; fault = f }))
+  pub settle_refused : (f : Fault) → Some (play_refusal f) ≡ first_no (told_asked c play v (λ _ _. [])) → Settles c play v (Err (record { play = play; fault = f }))
   settle_refused f e =
-      let r = refusal_some f in
-      record { refuses = r.1 ∙ sym (more_told c play v (λ x y. ask (refuse 21) (holds c.relation (landings_by c play.side x y v))) r.0 (sym e ∙ r.1)); hands_back = refl; first = tt }
+      record { refuses = sym (more_told c play v (λ x y. ask (refuse 21) (holds c.relation (landings_by c play.side x y v))) (play_refusal f) (sym e)); hands_back = refl; first = tt }
 
   -- both steps and the value are there
   module _ (yes : None ≡ first_no (told_asked c play v (λ _ _. []))) (p : Pair) (p-at : Stands c.relation p play.pair) where

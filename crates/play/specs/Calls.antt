@@ -22,17 +22,17 @@ use Rattle.play.specs.declared.fault.Refused.{Refused}
 use Rattle.play.specs.declared.level.Level.{Level}
 
 -- the no that a fault stands for: each has the number of its question, and no other numbers
-abbrev pub play_refusal : Fault → Option Refusal
-play_refusal Ranges = Some (refuse 10)
-play_refusal TooMany = Some (refuse 11)
-play_refusal NoPair = Some (refuse 17)
-play_refusal NoStep = Some (refuse 18)
-play_refusal NoReply = Some (refuse 19)
-play_refusal Value = Some (refuse 20)
-play_refusal Landings = Some (refuse 21)
+abbrev pub play_refusal : Fault → Refusal
+play_refusal Ranges = refuse 10
+play_refusal TooMany = refuse 11
+play_refusal NoPair = refuse 17
+play_refusal NoStep = refuse 18
+play_refusal NoReply = refuse 19
+play_refusal Value = refuse 20
+play_refusal Landings = refuse 21
 
 -- the no of a refused call
-abbrev pub refused_refusal : {P : Type 0} → Refused P → Option Refusal
+abbrev pub refused_refusal : {P : Type 0} → Refused P → Refusal
 refused_refusal e = play_refusal e.fault
 
 -- what a fault is called

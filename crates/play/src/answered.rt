@@ -38,7 +38,7 @@ fn value_for(label: &Label, range: &Range, told: Value) -> Option<Value>
 {
     match *label {
         Label::Receive { .. } => range.holds(told).then_some(told),
-        _ => Some(range.lo),
+        _ => Some(range.lo()),
     }
 }
 

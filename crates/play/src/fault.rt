@@ -19,7 +19,7 @@ pub enum Fault {
 
 impl Fault {
     pub fn refusal(&self) -> Refusal
-        ensures { Some result ≡ play_refusal self.now }
+        ensures { result ≡ play_refusal self.now }
     {
         let question = match *self {
             Fault::Ranges => 10,

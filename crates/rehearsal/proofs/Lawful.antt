@@ -1,15 +1,13 @@
 -- The law, from what each exit of a rehearsal knows. Assumes nothing.
-use Rattle.std.proofs.Common.{◌≡◌, ℕ, true, List, length, nat_lt, is_some, Some, None, Ok, Err, Option, Result, sym, refl, ap, ◌∙◌, subst, arith}
+use Rattle.std.proofs.Common.{◌≡◌, ℕ, List, length, nat_lt, Some, None, Ok, Err, Result, sym, refl, ap, ◌∙◌, subst, arith}
 use Rattle.std.proofs.lemmas.Bool.{ltb-true, ltb-false, false≢true}
 use Rattle.questions.specs.Asking.{first_no, refuse}
-use Rattle.questions.specs.declared.Refusal.{Refusal}
 use Rattle.questions.proofs.Chained.{first_of, then_of}
 use Rattle.judge.specs.Comparing.{Compared}
 use Rattle.judge.specs.Likeness.{Bisimulation}
 use Rattle.judge.specs.Judged.{judge_asked, judge_refusal, Judged}
 use Rattle.judge.specs.declared.fault.Fault.{Fault as JudgeFault}
 use Rattle.judge.specs.declared.verdict.Pass.{Pass}
-use Rattle.judge.proofs.Exactly.{none_bisimulation}
 use Rattle.lists.specs.Words.{through, Stands}
 use Rattle.lists.proofs.Places.{nth_here}
 use Rattle.model.specs.declared.state.Pair.{Pair}
@@ -26,17 +24,13 @@ use Rattle.rehearsal.specs.Law.{Plays, Law}
 use Rattle.rehearsal.proofs.Following.{runs_matched}
 use Rattle.rehearsal.proofs.Making.{taken_yes, refused_no}
 
-some_no : (c : Compared) (o : Option Refusal) → o ≡ first_no (judge_asked c) → (Bisimulation c → ⊥) → is_some o ≡ true
-some_no c None e none = absurd (none (none_bisimulation c (sym e)))
-some_no c (Some r) e none = refl
-
 module _ (c : Compared) (pair : ℕ) (old now : List Attempt) (r : Result Play RehearsalFault) where
   pub not_accepted : (f : JudgeFault) → r ≡ Err (NotAccepted f) → Judged c (Err f) → now ≡ old → Law c pair old now r
   not_accepted f e j same =
       let none : Bisimulation c → ⊥ = λ b. false≢true (j.exactly.1 b) in
       subst (λ (x : Result Play RehearsalFault). Law c pair old now x) (sym e) (record {
         accepts = (λ t. absurd (false≢true t), λ b. absurd (none b));
-        refuses = first_of (judge_refusal f) (judge_asked c) (begin_asked (length c.relation) pair) (some_no c (judge_refusal f) j.refuses none) j.refuses;
+        refuses = first_of (Some (judge_refusal f)) (judge_asked c) (begin_asked (length c.relation) pair) refl j.refuses;
         begin_refused = λ b. absurd (none b);
         not_played = same;
         plays = tt;
@@ -53,7 +47,7 @@ module _ (c : Compared) (pair : ℕ) (old now : List Attempt) (r : Result Play R
         let no = refused_no (nat_lt pair (length c.relation)) (refuse 17) f asked in
         subst (λ (x : Result Play RehearsalFault). Law c pair old now x) (sym e) (record {
           accepts = (λ _. bisimulation, λ _. refl);
-          refuses = then_of (play_refusal f) (judge_asked c) (begin_asked (length c.relation) pair) j.refuses asked;
+          refuses = then_of (Some (play_refusal f)) (judge_asked c) (begin_asked (length c.relation) pair) j.refuses asked;
           begin_refused = λ _. (λ _. ltb-false pair (length c.relation) no.0, λ _. refl);
           not_played = same;
           plays = tt;

@@ -43,12 +43,8 @@ abbrev by_number : ℕ → Fault
 by_number n =
     cond (nat_eq n 10) Ranges (cond (nat_eq n 11) TooMany (cond (nat_eq n 17) NoPair (cond (nat_eq n 18) NoStep (cond (nat_eq n 19) NoReply (cond (nat_eq n 20) Value Landings)))))
 
-abbrev by_refusal : Option Refusal → Option Fault
-by_refusal None = None
-by_refusal (Some r) = Some (by_number r.question)
-
 -- a fault is told by its no
-told_by : (f : Fault) → Some f ≡ by_refusal (play_refusal f)
+told_by : (f : Fault) → f ≡ by_number (play_refusal f).question
 told_by Ranges = refl
 told_by TooMany = refl
 told_by NoPair = refl
@@ -57,20 +53,17 @@ told_by NoReply = refl
 told_by Value = refl
 told_by Landings = refl
 
-refusal_some : (f : Fault) → play_refusal f ≡ None → ⊥
-refusal_some f e = some_none _ f refl (told_by f ∙ ap by_refusal e)
-
 fault_is : (f g : Fault) → play_refusal f ≡ play_refusal g → f ≡ g
-fault_is f g e = some_same (Some f) f g refl (told_by f ∙ ap by_refusal e ∙ sym (told_by g))
+fault_is f g e = told_by f ∙ ap (λ t. by_number t.question) e ∙ sym (told_by g)
 
 -- one question is left, with the answer b
 pub taken_yes : (b : Bool) (t : Refusal) → None ≡ cond b None (Some t) → b ≡ true
 taken_yes true t e = refl
 taken_yes false t e = absurd (some_none _ t refl (sym e))
 
-pub refused_no : (b : Bool) (t : Refusal) (f : Fault) → play_refusal f ≡ cond b None (Some t) → (b ≡ false) × (play_refusal f ≡ Some t)
-refused_no true t f e = absurd (refusal_some f e)
-refused_no false t f e = (refl, e)
+pub refused_no : (b : Bool) (t : Refusal) (f : Fault) → Some (play_refusal f) ≡ cond b None (Some t) → (b ≡ false) × (play_refusal f ≡ t)
+refused_no true t f e = absurd (some_none _ _ refl e)
+refused_no false t f e = (refl, some_same _ _ _ refl e)
 
 no_settle_challenge : (side : Side) (i : ℕ) (v : ℤ) → Challenge side i ≡ Settle v → ⊥
 no_settle_challenge side i v e = let z : ◌≡◌ {A = ℕ} 0 1 = cc in omega arith
@@ -133,7 +126,7 @@ module _ (c : Compared) (bis : Bisimulation c) where
         }
 
     reply_err : {P : Type 0} (e : RefusedCall ChallengedPlay) → Replies c l (Err e) → P
-    reply_err e h = absurd (refusal_some e.fault (h.refuses ∙ reply_left))
+    reply_err e h = absurd (some_none _ _ refl (h.refuses ∙ reply_left))
 
   -- settle
   module _ (low : in_range_of c.left c.left.lo ≡ true) (a : AnsweredPlay) (p : Pair) (at : Stands c.relation p a.pair) (v : ℤ) (fixed : FirstReply c a.side p a.step a.reply) where

@@ -1,5 +1,5 @@
 -- The law of judge, play and runs.
-use Rattle.std.specs.Prelude.{◌≡◌, ℕ, ◌≤◌, Bool, true, false, ◌⊎◌, List, ◌∷◌, ◌++◌, length, ℤ, is_err, IfOk, OnErr, Some, Ok, Err, Decides, Option, Result}
+use Rattle.std.specs.Prelude.{◌≡◌, ℕ, ◌≤◌, Bool, true, false, ◌⊎◌, List, ◌∷◌, ◌++◌, length, ℤ, is_err, IfOk, OnErr, Some, Ok, Err, Decides, Result}
 use Rattle.std.specs.List.{AllByRecursion}
 use Rattle.lists.specs.Words.{Stands, FirstOf}
 use Rattle.questions.specs.Asking.{first_no, refusal_of}
@@ -25,7 +25,7 @@ use Rattle.rehearsal.specs.Book.{Book, opened, book_after_call, book_after, with
 use Rattle.rehearsal.specs.Book.Phase.{level, challenged, answered}
 use Rattle.rehearsal.specs.Runs.{RunsMatched}
 
-abbrev pub rehearsal_refusal : RehearsalFault → Option Refusal
+abbrev pub rehearsal_refusal : RehearsalFault → Refusal
 rehearsal_refusal (NotAccepted f) = judge_refusal f
 rehearsal_refusal (NotBegun f) = play_refusal f
 

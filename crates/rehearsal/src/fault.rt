@@ -15,7 +15,7 @@ pub enum RehearsalFault {
 
 impl RehearsalFault {
     pub fn refusal(&self) -> Refusal
-        ensures { Some result ≡ rehearsal_refusal self.now }
+        ensures { result ≡ rehearsal_refusal self.now }
     {
         match *self {
             RehearsalFault::NotAccepted(fault) => fault.refusal(),
