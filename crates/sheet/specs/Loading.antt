@@ -1,5 +1,5 @@
 -- The questions 8 and 9, which are put to a sheet that is loaded.
-use Rattle.std.specs.Prelude.{List, ℕ, ℤ, Option}
+use Rattle.std.specs.Prelude.{List, ℕ, ℤ}
 use Rattle.questions.specs.Asking.{Question}
 use Rattle.questions.specs.declared.Refusal.{Refusal}
 use Rattle.tables.specs.Table.{table_asked, table_refusal}
@@ -11,6 +11,6 @@ use Rattle.sheet.specs.Rows.{parse_row}
 abbrev pub sheet_asked : ℤ → ℤ → GroupSet → List ℕ → List (Question Refusal)
 sheet_asked lo hi channels bytes = table_asked 8 9 6 128 (parse_row lo hi channels) bytes
 
--- what each fault refuses with; want of memory is no answer to a question
-abbrev pub sheet_refusal : SheetFault → Option Refusal
+-- what each fault refuses with
+abbrev pub sheet_refusal : SheetFault → Refusal
 sheet_refusal f = table_refusal 8 9 f.0

@@ -1,5 +1,5 @@
 -- What a sheet means.
-use Rattle.std.specs.Prelude.{ℕ, cond, List, [], map, ℤ, vec_items, filter, nat_eq}
+use Rattle.std.specs.Prelude.{ℕ, cond, List, [], map, ℤ, filter, nat_eq}
 use Rattle.lists.specs.Words.{given, records, gathered}
 use Rattle.model.specs.Alike.{same_value}
 use Rattle.model.specs.Ranges.{in_range}
@@ -53,7 +53,7 @@ rows_meaning lo hi channels rows =
     }
 
 abbrev pub sheet_meaning : Sheet → Meaning
-sheet_meaning t = rows_meaning t.range.lo t.range.hi t.channels (vec_items t.rows)
+sheet_meaning t = rows_meaning t.range.lo t.range.hi t.channels t.rows.items
 
 -- what the bytes of a sheet say: each six of them are a row
 abbrev pub bytes_meaning : ℤ → ℤ → GroupSet → List ℕ → Meaning

@@ -7,13 +7,13 @@ use std::error::Error;
 use std::fmt;
 use tables::TableFault;
 
-/// Why a sheet is not loaded: its rows are no table of at most 128 rows as laid out, or there is no memory for them.
+/// Why a sheet is not loaded: its rows are no table of at most 128 rows as laid out.
 #[derive(Clone, Copy, PartialEq, Eq, Debug)]
 pub struct SheetFault(pub TableFault);
 
 impl SheetFault {
-    /// The refusal with question 8 or 9, or none for want of memory.
-    pub fn refusal(&self) -> Option<Refusal>
+    /// The refusal with question 8 or 9.
+    pub fn refusal(&self) -> Refusal
         ensures { result ≡ sheet_refusal self.now }
     {
         self.0.refusal(8, 9)

@@ -6,7 +6,10 @@ use crate::row::{Kind, Row};
 use model::group_set::GroupSet;
 use model::range::Range;
 use model::value::{Value, value_of};
-use tables::Layout;
+use tables::{Layout, TableFault};
+
+/// The most rows of a sheet.
+pub(crate) const MOST_ROWS: usize = 128;
 
 /// How a sheet's rows are laid out, over its range and its channel set.
 #[derive(Clone, Copy)]
@@ -49,27 +52,24 @@ impl RowLayout {
     }
 }
 
-impl Layout<Row> for RowLayout {
+impl Layout<Row, MOST_ROWS> for RowLayout {
     /// The bytes of a row: from, kind, set, value, to, other.
     const WIDTH: usize = 6;
 
-    const MOST: usize = 128;
-
     ghost WIDTH = { 6 };
-
-    ghost MOST = { 128 };
 
     ghost parse = { λ x. parse_row x.range.lo x.range.hi x.channels };
 
     ghost some = { Prim.search rules };
 
-    fn read(&self, bytes: &[u8]) -> Option<Row> {
+    fn read(&self, number: usize, bytes: &[u8]) -> Result<Row, TableFault> {
+        let fault = TableFault::Record { number };
         let [from, code, set, value, to, other] = bytes else {
-            return None;
+            return Err(fault);
         };
-        Some(Row {
+        Ok(Row {
             from: *from,
-            kind: self.kind(*code, *set, *value, *to, *other)?,
+            kind: self.kind(*code, *set, *value, *to, *other).ok_or(fault)?,
             to: *to,
         })
     }

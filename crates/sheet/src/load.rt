@@ -8,20 +8,14 @@ use crate::layout::RowLayout;
 use crate::sheet::Sheet;
 use model::group_set::GroupSet;
 use model::range::Range;
-use std::alloc::Global;
 
 impl Sheet {
     /// The sheet with the rows in `bytes`, or a refusal with question 8 or 9.
-    pub fn load(
-        heap: Global,
-        range: Range,
-        channels: GroupSet,
-        bytes: &[u8],
-    ) -> Result<Sheet, SheetFault>
+    pub fn load(range: Range, channels: GroupSet, bytes: &[u8]) -> Result<Sheet, SheetFault>
         ensures refuses { refusal_of sheet_refusal result ≡ first_no (sheet_asked range.lo range.hi channels bytes.now) }
         ensures makes { IfOk result (λ x. sheet_meaning x ≡ bytes_meaning range.lo range.hi channels bytes.now) }
     {
-        let rows = tables::load(&RowLayout { range, channels }, heap, bytes)?;
+        let rows = tables::load(&RowLayout { range, channels }, bytes)?;
         Ok(Sheet {
             range,
             channels,

@@ -2,8 +2,9 @@ use model::group_set::GroupSet;
 use model::value::Value;
 
 /// What a row does, with what goes with it. A receive lands in the row's `to` for its value, and in `other` for the rest.
-#[derive(Clone, Copy, Debug)]
+#[derive(Clone, Copy, Default, Debug)]
 pub enum Kind {
+    #[default]
     Silent,
     Movement,
     Broadcast {
@@ -18,7 +19,7 @@ pub enum Kind {
 }
 
 /// A row is a step from the state with the number `from` to the one with the number `to`.
-#[derive(Clone, Copy, Debug)]
+#[derive(Clone, Copy, Default, Debug)]
 pub struct Row {
     pub from: u8,
     pub kind: Kind,

@@ -1,4 +1,6 @@
+use crate::layout::MOST_ROWS;
 use crate::row::Row;
+use arrayvec::ArrayVec;
 use model::group_set::GroupSet;
 use model::range::Range;
 
@@ -7,5 +9,5 @@ use model::range::Range;
 pub struct Sheet {
     pub(crate) range: Range,
     pub(crate) channels: GroupSet,
-    pub(crate) rows: Vec<Row>,
+    pub(crate) rows: ArrayVec<Row, MOST_ROWS>,
 }

@@ -1,6 +1,7 @@
-ghost use Rattle.std.specs.Prelude.{◌≡◌, ◌++◌, map, length, filter, OnOk};
+ghost use Rattle.std.specs.Prelude.{◌≡◌, ◌++◌, map, length, filter, OnOk, OnErr};
 ghost use Rattle.systems.specs.Meaning.{receives};
 ghost use Rattle.std.specs.List.{slice_get};
+ghost use Rattle.lists.specs.Words.{Extends};
 ghost use Rattle.sheet.specs.States.{number_of};
 ghost use Rattle.sheet.specs.Meaning.{target, step_of, rows_from, ways_of, listed_row};
 
@@ -85,7 +86,8 @@ fn row_from(rows: &[Row], number: u8, step: u64) -> Option<Row>
 
 /// Adds the rows to receive from the state with the number.
 fn add_receiving_from(rows: &[Row], number: u8, found: &mut Vec<Row>) -> Result<(), AllocError>
-    ensures { OnOk result (found.new.items ≡ found.old.items ++ filter (λ r. receives (step_of r).label) (rows_from number rows.now)) }
+    ensures adds { OnOk result (found.new.items ≡ found.old.items ++ filter (λ r. receives (step_of r).label) (rows_from number rows.now)) }
+    ensures begins { Extends found.old.items found.new.items }
 {
     for row in rows {
         if row.from == number && row.is_receive() {
@@ -103,7 +105,8 @@ fn add_listed_from(
     value: Value,
     steps: &mut Vec<Listed>,
 ) -> Result<(), AllocError>
-    ensures { OnOk result (steps.new.items ≡ steps.old.items ++ map (listed_row range.now.lo range.now.hi value) (rows_from number rows.now)) }
+    ensures adds { OnOk result (steps.new.items ≡ steps.old.items ++ map (listed_row range.now.lo range.now.hi value) (rows_from number rows.now)) }
+    ensures begins { Extends steps.old.items steps.new.items }
 {
     for row in rows {
         if row.from == number {
@@ -118,7 +121,7 @@ impl Sheet {
     pub(crate) fn count(&self, state: &State) -> u64
         ensures { result ≡ length (rows_from (number_of state.now) self.now.rows.items) }
     {
-        count_from(&self.rows, number_of(state))
+        count_from(self.rows.as_slice(), number_of(state))
     }
 
     /// The row that is the step `step` of a state, or none where the state has no such step.
@@ -127,32 +130,46 @@ impl Sheet {
     {
         // no `then`: it would give an Option of an Option, to be flattened
         if is_lawful(state) {
-            row_from(&self.rows, number_of(state), step)
+            row_from(self.rows.as_slice(), number_of(state), step)
         } else {
             None
         }
     }
 
-    /// Adds the rows to receive from a lawful state.
+    /// Adds the rows to receive from a lawful state. Where memory is wanting, the list stays as it was.
     pub(crate) fn add_receiving(
         &self,
         state: &State,
         found: &mut Vec<Row>,
     ) -> Result<(), AllocError>
-        ensures { OnOk result (found.new.items ≡ found.old.items ++ filter (λ r. receives (step_of r).label) (rows_from (number_of state.now) self.now.rows.items)) }
+        ensures adds { OnOk result (found.new.items ≡ found.old.items ++ filter (λ r. receives (step_of r).label) (rows_from (number_of state.now) self.now.rows.items)) }
+        ensures keeps { Extends found.old.items found.new.items }
+        ensures leaves { OnErr result (found.new.items ≡ found.old.items) }
     {
-        add_receiving_from(&self.rows, number_of(state), found)
+        let length = found.len();
+        let added = add_receiving_from(self.rows.as_slice(), number_of(state), found);
+        if added.is_err() {
+            found.truncate(length);
+        }
+        added
     }
 
-    /// Adds the steps of a lawful state, listed at the value.
+    /// Adds the steps of a lawful state, listed at the value. Where memory is wanting, the list stays as it was.
     pub(crate) fn add_rows(
         &self,
         state: &State,
         value: Value,
         steps: &mut Vec<Listed>,
     ) -> Result<(), AllocError>
-        ensures { OnOk result (steps.new.items ≡ steps.old.items ++ map (listed_row self.now.range.lo self.now.range.hi value) (rows_from (number_of state.now) self.now.rows.items)) }
+        ensures adds { OnOk result (steps.new.items ≡ steps.old.items ++ map (listed_row self.now.range.lo self.now.range.hi value) (rows_from (number_of state.now) self.now.rows.items)) }
+        ensures leaves { OnErr result (steps.new.items ≡ steps.old.items) }
     {
-        add_listed_from(&self.rows, number_of(state), &self.range, value, steps)
+        let length = steps.len();
+        let rows = self.rows.as_slice();
+        let added = add_listed_from(rows, number_of(state), &self.range, value, steps);
+        if added.is_err() {
+            steps.truncate(length);
+        }
+        added
     }
 }

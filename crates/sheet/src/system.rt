@@ -1,4 +1,6 @@
+ghost use Rattle.std.specs.Prelude.{◌≡◌, ℕ, Decides};
 ghost use Rattle.sheet.specs.Meaning.{sheet_meaning, step_of};
+ghost use Rattle.sheet.specs.States.{state_at};
 ghost use Rattle.sheet.specs.Stepping;
 
 use crate::row::Row;
@@ -26,7 +28,11 @@ impl System for Sheet {
         self.range
     }
 
-    fn is_lawful(&self, state: &State) -> bool {
+    /// A lawful state has any first byte, and then zeros.
+    fn is_lawful(&self, state: &State) -> bool
+        ensures is { result ≡ (sheet_meaning self.now).lawful state.now }
+        ensures numbered { Decides result ((n : ℕ) × (state.now ≡ state_at n)) }
+    {
         is_lawful(state)
     }
 

@@ -6,7 +6,6 @@ use model::label::Label;
 use model::range::Range;
 use model::state::State;
 use model::value::Value;
-use std::alloc::Global;
 use std::test::Fail;
 use systems::System;
 use tables::TableFault;
@@ -31,7 +30,7 @@ fn lands(sheet: &Sheet, from: u8, step: u64, value: Value, to: u8) -> bool {
 
 #[test]
 fn three_receives(rt: HostRuntime) -> Result<(), Fail> {
-    let sheet = Sheet::load(rt.alloc(), Range::new(-2, 2)?, CHANNELS, &ROWS)?;
+    let sheet = Sheet::load(Range::new(-2, 2)?, CHANNELS, &ROWS)?;
     assert_eq!(rt; sheet.step_count(&state_at(0)), 3);
     for step in 0..3 {
         assert!(rt; has_label(&sheet, 0, step, Label::Receive { groups: CHANNELS }));
@@ -41,7 +40,7 @@ fn three_receives(rt: HostRuntime) -> Result<(), Fail> {
 
 #[test]
 fn three_receives_land(rt: HostRuntime) -> Result<(), Fail> {
-    let sheet = Sheet::load(rt.alloc(), Range::new(-2, 2)?, CHANNELS, &ROWS)?;
+    let sheet = Sheet::load(Range::new(-2, 2)?, CHANNELS, &ROWS)?;
     for value in -2..3 {
         assert!(rt; lands(&sheet, 0, 0, value, 1));
         assert!(rt; lands(&sheet, 0, 1, value, 2));
@@ -57,7 +56,7 @@ fn three_receives_land(rt: HostRuntime) -> Result<(), Fail> {
 
 #[test]
 fn other_states(rt: HostRuntime) -> Result<(), Fail> {
-    let sheet = Sheet::load(rt.alloc(), Range::new(-2, 2)?, CHANNELS, &FEWER)?;
+    let sheet = Sheet::load(Range::new(-2, 2)?, CHANNELS, &FEWER)?;
     assert_eq!(rt; sheet.step_count(&state_at(0)), 2);
     assert_eq!(rt; sheet.step_count(&state_at(1)), 1);
     assert!(rt;
@@ -84,8 +83,8 @@ fn other_states(rt: HostRuntime) -> Result<(), Fail> {
 }
 
 /// What a sheet is refused for, over the range 1 to 2 and the channel set {0}.
-fn fault(heap: Global, bytes: &[u8]) -> Result<Option<SheetFault>, Fail> {
-    Ok(Sheet::load(heap, Range::new(1, 2)?, CHANNELS, bytes).err())
+fn fault(bytes: &[u8]) -> Result<Option<SheetFault>, Fail> {
+    Ok(Sheet::load(Range::new(1, 2)?, CHANNELS, bytes).err())
 }
 
 const LAID_OUT: [[u8; 6]; 4] = [
@@ -112,7 +111,7 @@ const NOT_LAID_OUT: [[u8; 6]; 9] = [
 #[test]
 fn rows_as_laid_out(rt: HostRuntime) -> Result<(), Fail> {
     for row in &LAID_OUT {
-        assert_eq!(rt; fault(rt.alloc(), row)?, None);
+        assert_eq!(rt; fault(row)?, None);
     }
     Ok(())
 }
@@ -121,7 +120,7 @@ fn rows_as_laid_out(rt: HostRuntime) -> Result<(), Fail> {
 fn rows_not_as_laid_out(rt: HostRuntime) -> Result<(), Fail> {
     for row in &NOT_LAID_OUT {
         assert_eq!(rt;
-            fault(rt.alloc(), row)?,
+            fault(row)?,
             Some(SheetFault(TableFault::Record { number: 0 }))
         );
     }
@@ -130,20 +129,14 @@ fn rows_not_as_laid_out(rt: HostRuntime) -> Result<(), Fail> {
 
 #[test]
 fn rows_counted(rt: HostRuntime) -> Result<(), Fail> {
-    assert_eq!(rt; fault(rt.alloc(), &[])?, None);
-    assert_eq!(rt; fault(rt.alloc(), &[0; 768])?, None);
-    assert_eq!(rt;
-        fault(rt.alloc(), &[0; 774])?,
-        Some(SheetFault(TableFault::Count))
-    );
-    assert_eq!(rt;
-        fault(rt.alloc(), &[0; 5])?,
-        Some(SheetFault(TableFault::Count))
-    );
+    assert_eq!(rt; fault(&[])?, None);
+    assert_eq!(rt; fault(&[0; 768])?, None);
+    assert_eq!(rt; fault(&[0; 774])?, Some(SheetFault(TableFault::Count)));
+    assert_eq!(rt; fault(&[0; 5])?, Some(SheetFault(TableFault::Count)));
     let mut rows = [0; 12];
     rows[7] = 9;
     assert_eq!(rt;
-        fault(rt.alloc(), &rows)?,
+        fault(&rows)?,
         Some(SheetFault(TableFault::Record { number: 1 }))
     );
     Ok(())
@@ -153,10 +146,9 @@ fn rows_counted(rt: HostRuntime) -> Result<(), Fail> {
 fn faults_in_words(rt: HostRuntime) -> Result<(), Fail> {
     let count = SheetFault(TableFault::Count);
     let record = SheetFault(TableFault::Record { number: 3 });
-    let memory = SheetFault(TableFault::Memory);
     assert_eq!(rt;
-        format!(in rt.alloc(); "{count}; {record}; {memory}")?.as_str(),
-        "the bytes are no whole records, or too many; record 3 is not as laid out; out of memory"
+        format!(in rt.alloc(); "{count}; {record}")?.as_str(),
+        "the bytes are no whole records, or too many; record 3 is not as laid out"
     );
     Ok(())
 }
