@@ -4,7 +4,7 @@ use Rattle.std.specs.List.{range_with_len}
 use Rattle.questions.specs.Sides.{side_byte}
 use Rattle.questions.specs.declared.Refusal.{Refusal}
 use Rattle.verdict.specs.declared.answer.Answer.{Answer}
-use Rattle.verdict.specs.declared.answer.Answer.TheVariants.{Accepted, Refused, NoMemory}
+use Rattle.verdict.specs.declared.answer.Answer.TheVariants.{Accepted, Refused}
 
 -- a number in w bytes, the low byte first
 abbrev pub low_first : ℕ → ℕ → List ℕ
@@ -18,8 +18,12 @@ accepted_bytes count = replicate 12 0 ++ low_first 4 count
 abbrev pub refused_bytes : Refusal → List ℕ
 refused_bytes r = r.question ∷ side_byte r.side ∷ (low_first 2 r.item ++ (low_first 8 r.step ++ replicate 4 0))
 
--- want of memory has the number 255, which no question has
+-- what is answered, in bytes
 abbrev pub verdict_bytes : Answer → List ℕ
 verdict_bytes (Accepted count) = accepted_bytes count
 verdict_bytes (Refused r) = refused_bytes r
-verdict_bytes NoMemory = 255 ∷ replicate 15 0
+
+-- the number of the question that was answered no, or 0 where none was
+abbrev pub question_of : Answer → ℕ
+question_of (Accepted count) = 0
+question_of (Refused r) = r.question

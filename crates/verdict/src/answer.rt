@@ -1,10 +1,7 @@
-ghost use Rattle.std.specs.Prelude.{◌≡◌};
-ghost use Rattle.verdict.specs.Verdicts.{accepted_bytes, refused_bytes, verdict_bytes};
+ghost use Rattle.std.specs.Prelude.{◌≡◌, slice_index};
+ghost use Rattle.verdict.specs.Verdicts.{accepted_bytes, question_of, refused_bytes, verdict_bytes};
 
 use questions::Refusal;
-
-/// The number for want of memory, which no question has. It is a byte of the layout; in code it is `Answer::NoMemory`.
-pub const NO_MEMORY: u8 = 255;
 
 /// What a job is answered.
 #[derive(Clone, Copy, PartialEq, Eq, Debug)]
@@ -13,8 +10,6 @@ pub enum Answer {
     Accepted { count: usize },
     /// The first no.
     Refused(Refusal),
-    /// Memory was wanting; no question of the layouts was answered no.
-    NoMemory,
 }
 
 // The conversion has a name, since it speaks of the layout's bytes; a verdict is only written.
@@ -22,12 +17,12 @@ impl Answer {
     /// The verdict, low bytes first: the question's number or 0, the side, two bytes for the record, row or pair number,
     /// eight for the step number, four for the count of pairs.
     pub fn to_bytes(&self) -> [u8; 16]
-        ensures { result ≡ verdict_bytes self.now }
+        ensures is { result ≡ verdict_bytes self.now }
+        ensures number { slice_index result 0 ≡ question_of self.now }
     {
         match *self {
             Answer::Accepted { count } => accepted(count),
             Answer::Refused(refusal) => refused(refusal),
-            Answer::NoMemory => [NO_MEMORY, 0, 0, 0, 0, 0, 0, 0, 0, 0, 0, 0, 0, 0, 0, 0],
         }
     }
 }
