@@ -1,5 +1,5 @@
 -- The frame of a job's input: its length, and what each record is by its kind, side, position and zeros.
-use Rattle.std.specs.Prelude.{ℕ, ◌+◌, ◌%◌, Bool, false, ◌&&◌, List, ◌∷◌, ◌++◌, length, drop, Some, Option, Ok, Err, Result, ◌==◌, nat_le, nat_lt, slice_index, codes}
+use Rattle.std.specs.Prelude.{ℕ, ◌+◌, ◌%◌, Bool, false, ◌&&◌, List, ◌∷◌, ◌++◌, length, drop, Ok, Err, Result, ◌==◌, nat_le, nat_lt, slice_index, codes}
 use Rattle.std.specs.Fmt.{decimal}
 use Rattle.std.specs.List.{list_all}
 use Rattle.lists.specs.Words.{records}
@@ -47,9 +47,6 @@ frames_asked bytes = put (refuse 22) (length_fits (length bytes)) ∷ numbered f
 abbrev pub frame_refusal : FrameFault → Refusal
 frame_refusal Length = refuse 22
 frame_refusal (Record k) = refuse_at 23 k
-
-abbrev pub frame_refusal_of : FrameFault → Option Refusal
-frame_refusal_of f = Some (frame_refusal f)
 
 -- what a fault is called
 abbrev pub fault_text : FrameFault → List ℕ

@@ -1,9 +1,10 @@
-ghost use Rattle.std.specs.Prelude.{◌≡◌, ◌==◌, Some};
+ghost use Rattle.std.specs.Prelude.{◌≡◌, ◌≤◌, ◌==◌, length, Some, OnOk};
 ghost use Rattle.std.specs.List.{list_all};
 ghost use Rattle.lists.specs.Words.{records};
 ghost use Rattle.questions.specs.Asking.{first_no, refusal_of};
 ghost use Rattle.questions.specs.Sides.{side_byte};
-ghost use Rattle.frames.specs.Frames.{placed, framed, frames_asked, frame_refusal, frame_refusal_of, fault_text};
+ghost use Rattle.frames.specs.Frames.{placed, framed, frames_asked, frame_refusal, fault_text};
+ghost use Rattle.frames.specs.Payloads.{relation_of};
 
 use crate::kind::Kind;
 use questions::{Refusal, Side};
@@ -95,9 +96,10 @@ fn is_framed(item: &[u8; RECORD], number: usize) -> bool
     }
 }
 
-/// Puts questions 22 and 23.
+/// Puts questions 22 and 23. An input that passes them has at most 1,022 pairs, since its first two records are settings.
 pub fn check(bytes: &[u8]) -> Result<(), FrameFault>
-    ensures { refusal_of frame_refusal_of result ≡ first_no (frames_asked bytes.now) }
+    ensures refuses { refusal_of frame_refusal result ≡ first_no (frames_asked bytes.now) }
+    ensures few { OnOk result (length (relation_of bytes.now) ≤ 1022) }
 {
     if bytes.len() % RECORD != 0 || !(SHORTEST..=LONGEST).contains(&bytes.len()) {
         return Err(FrameFault::Length);

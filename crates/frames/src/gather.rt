@@ -1,4 +1,4 @@
-ghost use Rattle.std.specs.Prelude.{◌≡◌, ◌<◌, ◌≤◌, length, MatchOption, IfOk, slice_index};
+ghost use Rattle.std.specs.Prelude.{◌≡◌, ◌<◌, ◌≤◌, length, MatchOption, slice_index};
 ghost use Rattle.model.specs.Bytes.{pair_of};
 ghost use Rattle.frames.specs.declared.kind.Kind.TheVariants.{Pair as PairKind};
 ghost use Rattle.frames.specs.Kinds.{width_of};
@@ -12,7 +12,6 @@ use model::group_set::GroupSet;
 use model::state::Pair;
 use model::value::value_of;
 use questions::Side;
-use std::alloc::{AllocError, Global};
 
 /// How many bytes of payloads are kept: as many as the rows of a network have at the most.
 pub const ROOM: usize = 1024;
@@ -87,24 +86,19 @@ fn pair_in(item: &[u8; RECORD]) -> Pair
     Pair::from_bytes(payload(item, Kind::Pair).try_into().unwrap())
 }
 
-fn pair_count(bytes: &[u8]) -> usize {
-    records(bytes)
-        .iter()
-        .filter(|item| is_of(item, Kind::Pair, Side::Left))
-        .count()
-}
+/// How many pairs an input of framed records has at the most: the longest has 1,024 records, and two of them are settings.
+pub const MOST_PAIRS: usize = 1022;
 
-/// The pairs.
+/// The pairs, in the order of the input, if there are at most `MOST` of them.
 #[tactic(auto, unfolding(crate::specs::Payloads::relation_of))]
-pub fn relation(heap: Global, bytes: &[u8]) -> Result<Vec<Pair>, AllocError>
-    ensures { IfOk result (λ v. v.items ≡ relation_of bytes.now) }
+pub fn relation<const MOST: usize>(bytes: &[u8]) -> Option<ArrayVec<Pair, MOST>>
+    ensures { MatchOption result (MOST < length (relation_of bytes.now)) (λ v. v.items ≡ relation_of bytes.now) }
 {
-    // counted first, since a list that grows is copied each time
-    let mut pairs = Vec::with_capacity(heap, pair_count(bytes))?;
+    let mut pairs = ArrayVec::new();
     for item in records(bytes) {
         if is_of(item, Kind::Pair, Side::Left) {
-            pairs.push(pair_in(item))?;
+            pairs.try_push(pair_in(item)).ok()?;
         }
     }
-    Ok(pairs)
+    Some(pairs)
 }

@@ -9,7 +9,7 @@ pub struct State {
 }
 
 /// A state of the left system beside one of the right.
-#[derive(Clone, Copy, PartialEq, Eq, Debug)]
+#[derive(Clone, Copy, PartialEq, Eq, Default, Debug)]
 pub struct Pair {
     pub left: State,
     pub right: State,

@@ -7,5 +7,5 @@ use Rattle.frames.proofs.gather.relation.Given as goal
 
 -- the pairs so far, and those that are left to come, are all
 abbrev pub invariant-loop-item : goal.invariant-loop-item
-invariant-loop-item l =
+invariant-loop-item g l =
     l.pairs.items ++ map (λ item. pair_of (payload_of PairKind item)) (filter (of_kind PairKind Left) (drop l.item-index l.item-items)) ≡ relation_of l.bytes
