@@ -1,5 +1,5 @@
 -- A whole job: its questions, and what a loaded one means.
-use Rattle.std.specs.Prelude.{◌≡◌, ℕ, List, ◌++◌, vec_items}
+use Rattle.std.specs.Prelude.{◌≡◌, ℕ, List, ◌++◌}
 use Rattle.questions.specs.Asking.{Question}
 use Rattle.questions.specs.declared.Refusal.{Refusal}
 use Rattle.questions.specs.declared.Side.TheVariants.{Left, Right}
@@ -26,4 +26,4 @@ job_asked bytes = layouts_asked bytes ++ judge_asked (compared_in bytes)
 pub record Loaded (bytes : List ℕ) (j : Job) : Type 0 where
   pub left : loaded_meaning j.left.table j.left.rule ≡ side_meaning Left bytes
   pub right : loaded_meaning j.right.table j.right.rule ≡ side_meaning Right bytes
-  pub relation : vec_items j.relation ≡ relation_of bytes
+  pub relation : j.relation.items ≡ relation_of bytes

@@ -1,5 +1,5 @@
 -- One side of a job: the questions to its records, and the network that they describe.
-use Rattle.std.specs.Prelude.{◌≡◌, ℕ, Bool, ◌&&◌, List, ◌++◌}
+use Rattle.std.specs.Prelude.{ℕ, Bool, ◌&&◌, List, ◌++◌}
 use Rattle.questions.specs.Asking.{Question, restated}
 use Rattle.questions.specs.declared.Refusal.{Refusal}
 use Rattle.questions.specs.declared.Side.{Side}
@@ -19,7 +19,6 @@ use Rattle.frames.specs.Payloads.{side_bytes, setting_of}
 use Rattle.frames.specs.declared.kind.Kind.TheVariants.{Row, Link}
 use Rattle.frames.specs.declared.setting.Setting.{Setting}
 use Rattle.job.specs.Faults.{on_side}
-use Rattle.job.specs.declared.held.Held.{Held}
 
 -- the range, the rule (links, then tuner) and the network of a setting and the bytes of links and rows: 1; 2, 3, 4; 5, 6, 7
 abbrev pub tables_asked : Setting → List ℕ → List ℕ → List (Question Refusal)
@@ -49,11 +48,3 @@ ruled_meaning net rule = network_meaning net (λ sets. links_allow rule.one sets
 
 abbrev pub loaded_meaning : Table → Both Links Tuner → Meaning
 loaded_meaning table rule = ruled_meaning (net_of table) rule
-
--- the values of a side's setting, once they are held to their questions
-pub record Holds (t : Setting) (x : Held) : Type 0 where
-  pub lo : x.range.lo ≡ t.lo
-  pub hi : x.range.hi ≡ t.hi
-  pub limit : x.tuner.limit ≡ t.limit
-  pub free : x.free ≡ t.free
-  pub units : x.units ≡ t.units

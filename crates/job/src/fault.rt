@@ -1,7 +1,7 @@
-ghost use Rattle.std.specs.Prelude.{◌≡◌};
-ghost use Rattle.job.specs.Faults.{side_refusal, job_refusal};
+ghost use Rattle.std.specs.Prelude.{◌≡◌, Some};
+ghost use Rattle.job.specs.Faults.{side_refusal, job_refusal, side_fault_text, job_fault_text};
 ghost use Rattle.job.specs.declared.fault.SideFault.TheVariants.{BadRange, BadRule, BadNetwork};
-ghost use Rattle.job.specs.declared.fault.JobFault.TheVariants.{BadFrame, NotAlike, Memory};
+ghost use Rattle.job.specs.declared.fault.JobFault.TheVariants.{BadFrame, NotAlike};
 
 use frames::frame::FrameFault;
 use judge::fault::Fault;
@@ -9,7 +9,6 @@ use model::range::Backward;
 use network::fault::NetworkFault;
 use questions::{Refusal, Side};
 use rules::fault::RuleFault;
-use std::alloc::AllocError;
 use std::error::Error;
 use std::fmt;
 
@@ -21,7 +20,7 @@ pub enum SideFault {
     BadNetwork(NetworkFault),
 }
 
-// One of a form, by hand: what a derive writes has no contract, and the checks say which fault a `?` makes.
+// One of a form, by hand: what a derive writes has no contract, and the loads say which fault a `?` makes.
 impl From<Backward> for SideFault {
     ghost from_gives = { λ e r. r ≡ BadRange e };
 
@@ -47,12 +46,12 @@ impl From<NetworkFault> for SideFault {
 }
 
 impl SideFault {
-    /// The refusal that the fault stands for; none for want of memory.
-    pub fn refusal(&self) -> Option<Refusal>
+    /// The refusal with a question from 1 to 7, told of the left side.
+    pub fn refusal(&self) -> Refusal
         ensures { result ≡ side_refusal self.now }
     {
         match *self {
-            SideFault::BadRange(fault) => Some(fault.refusal()),
+            SideFault::BadRange(fault) => fault.refusal(),
             SideFault::BadRule(fault) => fault.refusal(),
             SideFault::BadNetwork(fault) => fault.refusal(),
         }
@@ -60,8 +59,10 @@ impl SideFault {
 }
 
 impl fmt::Display for SideFault {
+    ghost output = { λ fault. Some (side_fault_text fault) };
+
     fn fmt<W: fmt::Write>(&self, f: &mut fmt::Formatter<W>) -> fmt::Result {
-        match self {
+        match *self {
             SideFault::BadRange(fault) => write!(f, "{fault}"),
             SideFault::BadRule(fault) => write!(f, "{fault}"),
             SideFault::BadNetwork(fault) => write!(f, "{fault}"),
@@ -77,7 +78,6 @@ pub enum JobFault {
     BadFrame(FrameFault),
     BadSide { side: Side, fault: SideFault },
     NotAlike(Fault),
-    Memory,
 }
 
 // By hand too, for the same reason.
@@ -97,33 +97,27 @@ impl From<Fault> for JobFault {
     }
 }
 
-impl From<AllocError> for JobFault {
-    ghost from_gives = { λ _ r. r ≡ Memory };
-
-    fn from(_e: AllocError) -> JobFault {
-        JobFault::Memory
-    }
-}
-
 impl JobFault {
-    /// The refusal that the fault stands for; none for want of memory.
-    pub fn refusal(&self) -> Option<Refusal>
+    /// The refusal that the fault stands for.
+    pub fn refusal(&self) -> Refusal
         ensures { result ≡ job_refusal self.now }
     {
         match *self {
-            JobFault::BadFrame(fault) => Some(fault.refusal()),
-            JobFault::BadSide { side, fault } => fault
-                .refusal()
-                .map(|refusal| Refusal { side, ..refusal }),
-            JobFault::NotAlike(fault) => Some(fault.refusal()),
-            JobFault::Memory => None,
+            JobFault::BadFrame(fault) => fault.refusal(),
+            JobFault::BadSide { side, fault } => Refusal {
+                side,
+                ..fault.refusal()
+            },
+            JobFault::NotAlike(fault) => fault.refusal(),
         }
     }
 }
 
 impl fmt::Display for JobFault {
+    ghost output = { λ fault. Some (job_fault_text fault) };
+
     fn fmt<W: fmt::Write>(&self, f: &mut fmt::Formatter<W>) -> fmt::Result {
-        match self {
+        match *self {
             JobFault::BadFrame(fault) => write!(f, "{fault}"),
             JobFault::BadSide {
                 side: Side::Left,
@@ -134,7 +128,6 @@ impl fmt::Display for JobFault {
                 fault,
             } => write!(f, "right system: {fault}"),
             JobFault::NotAlike(fault) => write!(f, "{fault}"),
-            JobFault::Memory => f.write_str("out of memory"),
         }
     }
 }

@@ -1,12 +1,9 @@
-// A job: two networks and a relation in one input, and the verdict on it.
+// A job: two networks and a relation in one input, and the verdict on it. The verdict is one definite value for every input:
+// specs/Verdicts.antt has it, and says in the subject's words what its number and its count tell.
 #![tactic(auto)]
 
-mod checks;
 pub mod fault;
-mod held;
 pub mod job;
-mod loads;
+mod load;
 pub mod outcome;
 mod sides;
-#[cfg(test)]
-mod tests;
