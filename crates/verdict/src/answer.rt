@@ -15,7 +15,7 @@ pub enum Answer {
 // The conversion has a name, since it speaks of the layout's bytes; a verdict is only written.
 impl Answer {
     /// The verdict, low bytes first: the question's number or 0, the side, two bytes for the record, row or pair number,
-    /// eight for the step number, four for the count of pairs.
+    /// eight for the step number, four for the count of pairs. A number that is too large for its bytes loses its high ones.
     pub fn to_bytes(&self) -> [u8; 16]
         ensures is { result ≡ verdict_bytes self.now }
         ensures number { slice_index result 0 ≡ question_of self.now }
