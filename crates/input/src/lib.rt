@@ -1,5 +1,6 @@
 // The start of an input, as far as there is room for it, and the part that is passed over. What the clauses say of the
-// bytes of a reader they say where its `remaining` is known.
+// bytes of a reader they say where its `remaining` is known. Which error a reader gives, and so which one is handed on, they
+// do not say.
 #![tactic(auto)]
 
 ghost use Rattle.std.specs.Prelude.{◌≡◌, ℕ, ◌≤◌, ◌<◌, false, length, take, IfOk, OnErr, IsTrue};
@@ -16,7 +17,8 @@ pub fn fill<R: Read>(input: &mut R, buffer: &mut [u8]) -> io::Result<usize>
     ensures room { IfOk result (λ n. n ≤ length buffer.new) }
     ensures bytes { IfOk result (λ n. Consumes (R.Read.remaining input.old) (R.Read.remaining input.new) (take n buffer.new)) }
     ensures end { IfOk result (λ n. n < length buffer.new → IsAtEnd (R.Read.remaining input.new)) }
-    ensures failed { OnErr result ((n : ℕ) × (n < length buffer.new) × Consumes (R.Read.remaining input.old) (R.Read.remaining input.new) (take n buffer.new)) }
+    ensures failed { OnErr result ((n : ℕ) × (n < length buffer.new)
+        × Consumes (R.Read.remaining input.old) (R.Read.remaining input.new) (take n buffer.new)) }
 {
     // by hand, since read_exact wants a full buffer, and read_to_end asks for memory
     let mut filled = 0;
