@@ -1,21 +1,18 @@
 -- The step that a loaded job shows is the one of the input. Assumes nothing.
-use Rattle.std.proofs.Common.{◌≡◌, ℕ, ◌<◌, List, length, Some, None, Option, vec_items, refl, ap, sym, ◌∙◌, subst}
+use Rattle.std.proofs.Common.{◌≡◌, ℕ, ◌<◌, List, length, refl, sym, ◌∙◌, subst}
 use Rattle.std.specs.List.{slice_get}
 use Rattle.lists.specs.Words.{Stands}
 use Rattle.lists.proofs.Places.{some_same, nth_within}
-use Rattle.questions.specs.declared.Refusal.{Refusal}
 use Rattle.questions.specs.declared.Side.{Side}
 use Rattle.questions.specs.declared.Side.TheVariants.{Left, Right}
 use Rattle.model.specs.declared.state.Pair.{Pair}
 use Rattle.systems.specs.Meaning.{Meaning}
 use Rattle.frames.specs.Payloads.{relation_of, setting_of}
-use Rattle.judge.specs.Comparing.{comparing, system_on, state_on}
-use Rattle.job.specs.Jobs.{compared_in, Loaded}
-use Rattle.job.specs.Sides.{loaded_meaning, side_meaning}
-use Rattle.job.specs.Verdicts.{Told, Answers}
-use Rattle.job.specs.declared.job.Job.{Job}
+use Rattle.judge.specs.Comparing.{system_on, state_on}
+use Rattle.job.specs.Jobs.{compared_in}
+use Rattle.job.specs.Sides.{side_meaning}
 use Rattle.words.specs.Steps.{IsStep}
-use Rattle.words.specs.Explaining.{IsShown, answer_by_refusal}
+use Rattle.words.specs.Explaining.{IsShown}
 use Rattle.words.specs.declared.step.ShownStep.{ShownStep}
 use Rattle.words.proofs.Located.{HasStep}
 
@@ -45,15 +42,3 @@ module _ (bytes : List ℕ) (rel : List Pair) (same : rel ≡ relation_of bytes)
         let P : Meaning → Type 0 = λ n. IsStep n (state_on side p) i x in
         let Q : Pair → Type 0 = λ q. IsStep (side_meaning side bytes) (state_on side q) i x in
         record { pair = h.pair; at = h.at; step = subst Q pair_is (subst P means step); units = units }
-
--- what is told of a refusal is its answer
-pub told_answers : (bytes : List ℕ) (o : Option Refusal) → Told bytes o → Answers bytes (answer_by_refusal o)
-told_answers bytes None h = h
-told_answers bytes (Some r) h = h
-
--- the relation as the judge is lent it
-pub judged_same : (bytes : List ℕ) (j : Job) (loaded : Loaded bytes j) (lent : List Pair) → lent ≡ vec_items j.relation → comparing (loaded_meaning j.left.table j.left.rule) (loaded_meaning j.right.table j.right.rule) lent ≡ compared_in bytes
-judged_same bytes j loaded lent whole =
-    ap (λ m. comparing m (loaded_meaning j.right.table j.right.rule) lent) loaded.left
-    ∙ ap (λ m. comparing (side_meaning Left bytes) m lent) loaded.right
-    ∙ ap (λ rel. comparing (side_meaning Left bytes) (side_meaning Right bytes) rel) (whole ∙ loaded.relation)

@@ -2,7 +2,6 @@
 use Rattle.std.specs.Prelude.{◌≡◌, ℕ, List, Some, None, Option, MatchOption}
 use Rattle.lists.specs.Words.{Stands}
 use Rattle.questions.specs.Asking.{first_no}
-use Rattle.questions.specs.declared.Refusal.{Refusal}
 use Rattle.questions.specs.declared.Side.{Side}
 use Rattle.questions.specs.declared.Side.TheVariants.{Left, Right}
 use Rattle.model.specs.declared.state.Pair.{Pair}
@@ -12,7 +11,7 @@ use Rattle.judge.specs.Judged.{judge_refusal}
 use Rattle.judge.specs.declared.fault.Fault.{Fault}
 use Rattle.judge.specs.declared.fault.Fault.TheVariants.{Ranges, TooMany, LeftUnlawful, RightUnlawful, Shown, LeftStep, RightStep}
 use Rattle.verdict.specs.declared.answer.Answer.{Answer}
-use Rattle.verdict.specs.declared.answer.Answer.TheVariants.{Accepted as AcceptedWith, Refused as RefusedWith, NoMemory}
+use Rattle.verdict.specs.declared.answer.Answer.TheVariants.{Accepted as AcceptedWith, Refused as RefusedWith}
 use Rattle.job.specs.Faults.{job_refusal}
 use Rattle.job.specs.Jobs.{layouts_asked}
 use Rattle.job.specs.Sides.{side_meaning}
@@ -38,18 +37,14 @@ ShowsStep bytes (Shown k) o = o ≡ None
 ShowsStep bytes (LeftStep k i) o = MatchOption o ⊥ (IsShown bytes Left k i)
 ShowsStep bytes (RightStep k i) o = MatchOption o ⊥ (IsShown bytes Right k i)
 
--- a fault of the layouts is their first no, or want of memory; beside a fault of the judge stands its step
+-- a fault of the layouts is their first no; beside a fault of the judge stands its step
 abbrev pub Shows : List ℕ → Told → Type 0
 Shows bytes (Accepted n) = Unit {0}
-Shows bytes (Malformed f) = job_refusal f ≡ first_no (layouts_asked bytes)
+Shows bytes (Malformed f) = Some (job_refusal f) ≡ first_no (layouts_asked bytes)
 Shows bytes (Unlike f o) = ShowsStep bytes f o
-
-abbrev pub answer_by_refusal : Option Refusal → Answer
-answer_by_refusal None = NoMemory
-answer_by_refusal (Some r) = RefusedWith r
 
 -- the answer that is told
 abbrev pub answer_in : Told → Answer
 answer_in (Accepted n) = AcceptedWith n
-answer_in (Malformed f) = answer_by_refusal (job_refusal f)
-answer_in (Unlike f o) = answer_by_refusal (judge_refusal f)
+answer_in (Malformed f) = RefusedWith (job_refusal f)
+answer_in (Unlike f o) = RefusedWith (judge_refusal f)

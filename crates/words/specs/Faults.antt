@@ -1,9 +1,8 @@
 -- The text of a fault: the number of its question, what it asks, and where the no is.
-use Rattle.std.specs.Prelude.{ℕ, List, [], ◌++◌, Some, None, Option, codes}
+use Rattle.std.specs.Prelude.{ℕ, List, [], ◌++◌, codes}
 use Rattle.std.specs.Fmt.{decimal}
-use Rattle.questions.specs.declared.Refusal.{Refusal}
 use Rattle.questions.specs.declared.Side.TheVariants.{Left, Right}
-use Rattle.tables.specs.declared.TableFault.TheVariants.{Count, Record, Memory}
+use Rattle.tables.specs.declared.TableFault.TheVariants.{Count, Record}
 use Rattle.rules.specs.declared.fault.RuleFault.TheVariants.{Table, Limit}
 use Rattle.network.specs.declared.fault.NetworkFault.TheVariants.{Units, Rows}
 use Rattle.frames.specs.declared.frame.FrameFault.{FrameFault}
@@ -14,9 +13,9 @@ use Rattle.job.specs.Faults.{job_refusal}
 use Rattle.job.specs.declared.fault.SideFault.{SideFault}
 use Rattle.job.specs.declared.fault.SideFault.TheVariants.{BadRange, BadRule, BadNetwork}
 use Rattle.job.specs.declared.fault.JobFault.{JobFault}
-use Rattle.job.specs.declared.fault.JobFault.TheVariants.{BadFrame, BadSide, NotAlike, Memory as JobMemory}
+use Rattle.job.specs.declared.fault.JobFault.TheVariants.{BadFrame, BadSide, NotAlike}
 
--- what the question asks; nothing where memory was wanting
+-- what the question asks
 abbrev pub frame_asks : FrameFault → List ℕ
 frame_asks Length = codes "Is the length a multiple of 64, from 128 to 65536?"
 frame_asks (RecordFault k) = codes "Has each record its kind, side, position and zero bytes?"
@@ -25,12 +24,10 @@ abbrev pub side_asks : SideFault → List ℕ
 side_asks (BadRange f) = codes "Is the lowest value of the range at most the highest?"
 side_asks (BadRule (Table Count)) = codes "Are the links whole records, and at most 16?"
 side_asks (BadRule (Table (Record k))) = codes "Is each link as laid out?"
-side_asks (BadRule (Table Memory)) = []
 side_asks (BadRule Limit) = codes "Is the tuner limit at most 8?"
 side_asks (BadNetwork Units) = codes "Are there 1 to 6 units?"
 side_asks (BadNetwork (Rows Count)) = codes "Are the rows whole records, and at most 64?"
 side_asks (BadNetwork (Rows (Record k))) = codes "Is each row as laid out, with its constants in the range?"
-side_asks (BadNetwork (Rows Memory)) = []
 
 abbrev pub judge_asks : Fault → List ℕ
 judge_asks Ranges = codes "Have both systems the same range?"
@@ -45,7 +42,6 @@ abbrev pub job_asks : JobFault → List ℕ
 job_asks (BadFrame f) = frame_asks f
 job_asks (BadSide s f) = side_asks f
 job_asks (NotAlike f) = judge_asks f
-job_asks JobMemory = []
 
 -- of which side it is asked
 abbrev pub whose_text : JobFault → List ℕ
@@ -53,7 +49,6 @@ whose_text (BadFrame f) = []
 whose_text (BadSide Left f) = codes ", left side"
 whose_text (BadSide Right f) = codes ", right side"
 whose_text (NotAlike f) = []
-whose_text JobMemory = []
 
 -- at which record, link, row, pair or step the no is
 abbrev pub at_text : List ℕ → ℕ → List ℕ
@@ -67,12 +62,10 @@ abbrev pub side_place : SideFault → List ℕ
 side_place (BadRange f) = []
 side_place (BadRule (Table Count)) = []
 side_place (BadRule (Table (Record k))) = at_text (codes "link") k
-side_place (BadRule (Table Memory)) = []
 side_place (BadRule Limit) = []
 side_place (BadNetwork Units) = []
 side_place (BadNetwork (Rows Count)) = []
 side_place (BadNetwork (Rows (Record k))) = at_text (codes "row") k
-side_place (BadNetwork (Rows Memory)) = []
 
 abbrev pub step_place : ℕ → ℕ → List ℕ
 step_place k i = codes "The first no is at pair " ++ decimal k ++ (codes ", step " ++ decimal i ++ codes ".\n")
@@ -90,12 +83,7 @@ abbrev pub place_text : JobFault → List ℕ
 place_text (BadFrame f) = frame_place f
 place_text (BadSide s f) = side_place f
 place_text (NotAlike f) = judge_place f
-place_text JobMemory = []
 
--- the number is that of the refusal for which the fault stands; it stands for none where memory was wanting
-abbrev pub refused_text : JobFault → Option Refusal → List ℕ
-refused_text f None = codes "No verdict: there was not enough memory.\n"
-refused_text f (Some r) = codes "Refused by question " ++ decimal r.question ++ (whose_text f ++ (codes ": " ++ job_asks f ++ (codes "\n" ++ place_text f)))
-
+-- the number is that of the refusal for which the fault stands
 unfoldable pub fault_text : JobFault → List ℕ
-fault_text f = refused_text f (job_refusal f)
+fault_text f = codes "Refused by question " ++ decimal (job_refusal f).question ++ (whose_text f ++ (codes ": " ++ job_asks f ++ (codes "\n" ++ place_text f)))

@@ -2,7 +2,7 @@ ghost use Rattle.std.specs.Prelude.{◌≡◌, ◌<◌, length, Some, slice_get}
 ghost use Rattle.questions.specs.Asking.{first_no};
 ghost use Rattle.judge.specs.Judged.{judge_asked, judge_refusal};
 ghost use Rattle.job.specs.Jobs.{compared_in, Loaded};
-ghost use Rattle.job.specs.Verdicts.{Answers};
+ghost use Rattle.job.specs.Verdicts.{answer_of};
 ghost use Rattle.words.specs.Steps.{IsStep};
 ghost use Rattle.words.specs.Explaining.{answer_in, Shows, ShowsStep};
 
@@ -28,10 +28,10 @@ fn step_on<S: System>(system: &S, units: usize, state: &State, step: u64) -> Sho
         units,
         state: *state,
         label: system.label(state, step).unwrap(),
-        lo: range.lo,
-        at_lo: system.landing(state, step, range.lo).unwrap(),
-        hi: range.hi,
-        at_hi: system.landing(state, step, range.hi).unwrap(),
+        lo: range.lo(),
+        at_lo: system.landing(state, step, range.lo()).unwrap(),
+        hi: range.hi(),
+        at_hi: system.landing(state, step, range.hi()).unwrap(),
     }
 }
 
@@ -46,20 +46,20 @@ fn pair_at(relation: &[Pair], number: usize) -> Pair
 /// The step that the fault is about, where it is about one.
 fn step_of(bytes: &[u8], job: &Job, fault: Fault) -> Option<ShownStep>
     requires loaded { Loaded bytes.now job.now }
-    requires told { judge_refusal fault ≡ first_no (judge_asked (compared_in bytes.now)) }
+    requires told { Some (judge_refusal fault) ≡ first_no (judge_asked (compared_in bytes.now)) }
     ensures { ShowsStep bytes.now fault result }
 {
-    let pairs = job.relation.as_slice();
+    let pairs = job.relation();
     match fault {
         Fault::LeftStep { pair, step } => {
             let units = setting(bytes, Side::Left).units;
             let both = pair_at(pairs, pair);
-            Some(step_on(&job.left, units, &both.left, step))
+            Some(step_on(job.left(), units, &both.left, step))
         }
         Fault::RightStep { pair, step } => {
             let units = setting(bytes, Side::Right).units;
             let both = pair_at(pairs, pair);
-            Some(step_on(&job.right, units, &both.right, step))
+            Some(step_on(job.right(), units, &both.right, step))
         }
         Fault::Ranges
         | Fault::TooMany
@@ -69,16 +69,17 @@ fn step_of(bytes: &[u8], job: &Job, fault: Fault) -> Option<ShownStep>
     }
 }
 
-/// The answer to a job, with the step that it is about. The answer is the one of the verdict.
+/// The answer to a job, with the step that it is about. The answer is the one of the verdict. The heap makes the judge faster,
+/// and changes nothing.
 pub fn explain(heap: Global, bytes: &[u8]) -> Told
-    ensures answers { Answers bytes.now (answer_in result) }
+    ensures answers { answer_in result ≡ answer_of bytes.now }
     ensures shows { Shows bytes.now result }
 {
-    let job = match Job::load(heap, bytes) {
+    let job = match Job::load(bytes) {
         Ok(job) => job,
         Err(fault) => return Told::Malformed(fault),
     };
-    match judge(heap, &job.left, &job.right, &job.relation) {
+    match judge(heap, job.left(), job.right(), job.relation()) {
         Ok(pass) => Told::Accepted {
             count: pass.count(),
         },

@@ -42,8 +42,6 @@ fn side_asks(fault: SideFault) -> &'static str
         SideFault::BadNetwork(NetworkFault::Rows(TableFault::Record { .. })) => {
             "Is each row as laid out, with its constants in the range?"
         }
-        SideFault::BadRule(RuleFault::Table(TableFault::Memory))
-        | SideFault::BadNetwork(NetworkFault::Rows(TableFault::Memory)) => "",
     }
 }
 
@@ -61,7 +59,7 @@ fn judge_asks(fault: Fault) -> &'static str
     }
 }
 
-/// What the question asks; nothing where memory was wanting.
+/// What the question asks.
 fn asks(fault: JobFault) -> &'static str
     ensures { result.now ≡ job_asks fault }
 {
@@ -69,7 +67,6 @@ fn asks(fault: JobFault) -> &'static str
         JobFault::BadFrame(fault) => frame_asks(fault),
         JobFault::BadSide { fault, .. } => side_asks(fault),
         JobFault::NotAlike(fault) => judge_asks(fault),
-        JobFault::Memory => "",
     }
 }
 
@@ -86,7 +83,7 @@ fn whose(fault: JobFault) -> &'static str
             side: Side::Right,
             ..
         } => ", right side",
-        JobFault::BadFrame(_) | JobFault::NotAlike(_) | JobFault::Memory => "",
+        JobFault::BadFrame(_) | JobFault::NotAlike(_) => "",
     }
 }
 
@@ -128,11 +125,9 @@ impl fmt::Display for SidePlace {
             }
             SideFault::BadRange(_)
             | SideFault::BadRule(RuleFault::Limit)
-            | SideFault::BadRule(RuleFault::Table(TableFault::Count | TableFault::Memory))
+            | SideFault::BadRule(RuleFault::Table(TableFault::Count))
             | SideFault::BadNetwork(NetworkFault::Units)
-            | SideFault::BadNetwork(NetworkFault::Rows(TableFault::Count | TableFault::Memory)) => {
-                Ok(())
-            }
+            | SideFault::BadNetwork(NetworkFault::Rows(TableFault::Count)) => Ok(()),
         }
     }
 }
@@ -169,7 +164,6 @@ impl fmt::Display for Place {
                 let place = JudgePlace(fault);
                 write!(f, "{place}")
             }
-            JobFault::Memory => Ok(()),
         }
     }
 }
@@ -180,10 +174,7 @@ impl fmt::Display for FaultWords {
     #[tactic(auto, unfolding(crate::specs::Faults::fault_text))]
     fn fmt<W: fmt::Write>(&self, f: &mut fmt::Formatter<W>) -> fmt::Result {
         let fault = self.0;
-        let Some(refusal) = fault.refusal() else {
-            return f.write_str("No verdict: there was not enough memory.\n");
-        };
-        let question = refusal.question;
+        let question = fault.refusal().question;
         let whose = whose(fault);
         let asks = asks(fault);
         let place = Place(fault);

@@ -90,14 +90,13 @@ fn faults_in_words(rt: HostRuntime) -> Result<(), Fail> {
         fault: SideFault::BadNetwork(NetworkFault::Rows(TableFault::Record { number: 2 })),
     });
     let shown = FaultWords(JobFault::NotAlike(Fault::Shown { pair: 7 }));
-    let memory = FaultWords(JobFault::Memory);
     assert_eq!(rt;
         format!(in heap; "{frame}{link}")?.as_str(),
         "Refused by question 23: Has each record its kind, side, position and zero bytes?\nThe first no is at record 3.\nRefused by question 3, left side: Is each link as laid out?\nThe first no is at link 1.\n"
     );
     assert_eq!(rt;
-        format!(in heap; "{row}{shown}{memory}")?.as_str(),
-        "Refused by question 7, right side: Is each row as laid out, with its constants in the range?\nThe first no is at row 2.\nRefused by question 14: Do both states show the same set?\nThe first no is at pair 7.\nNo verdict: there was not enough memory.\n"
+        format!(in heap; "{row}{shown}")?.as_str(),
+        "Refused by question 7, right side: Is each row as laid out, with its constants in the range?\nThe first no is at row 2.\nRefused by question 14: Do both states show the same set?\nThe first no is at pair 7.\n"
     );
     Ok(())
 }

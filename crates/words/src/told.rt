@@ -14,7 +14,7 @@ pub enum Told {
     Accepted {
         count: usize,
     },
-    /// The first no is among the questions of the layouts; or memory was wanting.
+    /// The first no is among the questions of the layouts.
     Malformed(JobFault),
     /// The first no is the judge's; where it is about a step, the step is shown.
     Unlike {

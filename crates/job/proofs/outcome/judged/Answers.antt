@@ -15,16 +15,16 @@ returns-in_err-judge-clause-refuses c =
     let y = err_from_is_err_and c.from_residual-in_err-judge.result c.from_residual-in_err-judge.ensures.1 in
     let e = ap job_refusal y.2 in
     let l = c.in_ok-job.ensures in
-    rw (y.1, e) (judge_then c.args.bytes.now l.refuses c.in_ok-job.job l.loads c.relation.result.now c.relation.ensures _ c.in_err-judge.ensures.refuses)
+    rw (y.1, e) (judge_then c.args.bytes.now l.refuses _ _ c.relation.result.now l.loads.left l.loads.right (c.relation.ensures ∙ l.loads.relation) _ c.in_err-judge.ensures.refuses)
 
 pub returns : goal.returns
 returns c =
     let l = c.in_ok-job.ensures in
     let t = c.in_ok-judge.ensures in
     let bytes = c.args.bytes.now in
-    let job = c.in_ok-job.job in
     let lent = c.relation.result.now in
+    let whole = c.relation.ensures ∙ l.loads.relation in
     record {
-      refuses = judge_then bytes l.refuses job l.loads lent c.relation.ensures _ t.refuses;
-      counts = judge_counted bytes l.refuses job l.loads lent c.relation.ensures _ t.counts;
+      refuses = judge_then bytes l.refuses _ _ lent l.loads.left l.loads.right whole _ t.refuses;
+      counts = judge_counted bytes l.refuses _ _ lent l.loads.left l.loads.right whole _ t.counts;
     }

@@ -1,29 +1,35 @@
-use Rattle.std.proofs.Common.{ap, ◌∙◌}
+use Rattle.std.proofs.Common.{Some, None, ap, sym, ◌∙◌}
 use Rattle.questions.specs.Asking.{first_no}
 use Rattle.judge.specs.Judged.{judge_asked}
-use Rattle.job.proofs.Judging.{told_first, judge_told, judge_passed, judge_counted}
-use Rattle.words.proofs.Showing.{told_answers, judged_same}
+use Rattle.verdict.specs.declared.answer.Answer.TheVariants.{Accepted}
+use Rattle.job.specs.Sides.{loaded_meaning}
+use Rattle.job.specs.Verdicts.{answer_by, pair_count}
+use Rattle.job.proofs.Judging.{layouts_first, read_is, judge_then, judge_counted}
 use Rattle.words.proofs.explain.explain.Goals as goal
 
 pub returns-in-Err-clause-answers : goal.returns-in-Err-clause-answers
-returns-in-Err-clause-answers c = told_answers c.args.bytes.now _ (told_first c.args.bytes.now _ c.in-Err.ensures.refuses)
+returns-in-Err-clause-answers c = ap (answer_by (pair_count c.args.bytes.now)) (layouts_first c.args.bytes.now _ c.in-Err.ensures.refuses)
 
 pub returns-in-Ok-judge-clause-answers : goal.returns-in-Ok-judge-clause-answers
 returns-in-Ok-judge-clause-answers c =
     let bytes = c.args.bytes.now in
     let l = c.in-Ok.ensures in
-    let lent = c.deref.result.now in (
-      judge_passed bytes l.refuses c.in-Ok.job l.loads lent c.deref.ensures.value c.in-Ok-judge.ensures.refuses,
-      judge_counted bytes l.refuses c.in-Ok.job l.loads lent c.deref.ensures.value _ (c.count.ensures ∙ c.in-Ok-judge.ensures.counts),
-    )
+    let left = ap (λ n. loaded_meaning n.table n.rule) c.left.ensures ∙ l.loads.left in
+    let right = ap (λ n. loaded_meaning n.table n.rule) c.right.ensures ∙ l.loads.right in
+    let whole = c.relation.ensures ∙ l.loads.relation in
+    let count = judge_counted bytes l.refuses _ _ c.relation.result.now left right whole _ (c.count.ensures ∙ c.in-Ok-judge.ensures.counts) in
+    ap Accepted count ∙ ap (answer_by (pair_count bytes)) (judge_then bytes l.refuses _ _ c.relation.result.now left right whole None c.in-Ok-judge.ensures.refuses)
 
 pub step_of-requires-clause-told : goal.step_of-requires-clause-told
 step_of-requires-clause-told c =
-    let same = judged_same c.args.bytes.now c.in-Ok.job c.in-Ok.ensures.loads c.deref.result.now c.deref.ensures.value in
+    let l = c.in-Ok.ensures in
+    let same = read_is c.args.bytes.now l.refuses _ _ c.relation.result.now (ap (λ n. loaded_meaning n.table n.rule) c.left.ensures ∙ l.loads.left) (ap (λ n. loaded_meaning n.table n.rule) c.right.ensures ∙ l.loads.right) (c.relation.ensures ∙ l.loads.relation) in
     c.in-Err-judge.ensures.refuses ∙ ap (λ x. first_no (judge_asked x)) same
 
-pub returns-clause-answers : goal.returns-clause-answers
-returns-clause-answers c =
+pub returns-in-Err-judge-clause-answers : goal.returns-in-Err-judge-clause-answers
+returns-in-Err-judge-clause-answers c =
     let bytes = c.args.bytes.now in
     let l = c.in-Ok.ensures in
-    told_answers bytes _ (judge_told bytes l.refuses c.in-Ok.job l.loads c.deref.result.now c.deref.ensures.value _ c.in-Err-judge.ensures.refuses)
+    let left = ap (λ n. loaded_meaning n.table n.rule) c.left.ensures ∙ l.loads.left in
+    let right = ap (λ n. loaded_meaning n.table n.rule) c.right.ensures ∙ l.loads.right in
+    ap (answer_by (pair_count bytes)) (judge_then bytes l.refuses _ _ c.relation.result.now left right (c.relation.ensures ∙ l.loads.relation) _ c.in-Err-judge.ensures.refuses)
