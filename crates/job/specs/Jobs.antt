@@ -22,8 +22,7 @@ compared_in bytes = comparing (side_meaning Left bytes) (side_meaning Right byte
 abbrev pub job_asked : List ℕ → List (Question Refusal)
 job_asked bytes = layouts_asked bytes ++ judge_asked (compared_in bytes)
 
--- a job as it is loaded from an input
+-- the networks of a job as they are loaded from an input
 pub record Loaded (bytes : List ℕ) (j : Job) : Type 0 where
   pub left : loaded_meaning j.left.table j.left.rule ≡ side_meaning Left bytes
   pub right : loaded_meaning j.right.table j.right.rule ≡ side_meaning Right bytes
-  pub relation : j.relation.items ≡ relation_of bytes

@@ -1,16 +1,12 @@
-use arrayvec::ArrayVec;
-use frames::gather::MOST_PAIRS;
-use model::state::Pair;
 use network::network::Network;
 use rules::both::Both;
 use rules::links::Links;
 use rules::tuner::Tuner;
 
-/// Two networks, each under both of its links and its tuner, and a relation between them. It is made by its load, and cannot
-/// be changed.
+/// The two networks of a job, each under both of its links and its tuner. They are made by their load, and cannot be changed.
+// The pairs stand apart: how much room they are given is for the caller to say.
 #[derive(Drop)]
 pub struct Job {
     pub(crate) left: Network<Both<Links, Tuner>>,
     pub(crate) right: Network<Both<Links, Tuner>>,
-    pub(crate) relation: ArrayVec<Pair, MOST_PAIRS>,
 }

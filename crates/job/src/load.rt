@@ -1,4 +1,5 @@
-ghost use Rattle.std.specs.Prelude.{◌≡◌, IfOk};
+ghost use Rattle.std.specs.Prelude.{◌≡◌, ◌≤◌, length, IfOk, OnOk};
+ghost use Rattle.frames.specs.Payloads.{relation_of};
 ghost use Rattle.questions.specs.Asking.{first_no, refusal_of};
 ghost use Rattle.job.specs.Faults.{job_refusal};
 ghost use Rattle.job.specs.Jobs.{layouts_asked, Loaded};
@@ -7,8 +8,6 @@ use crate::fault::JobFault;
 use crate::job::Job;
 use crate::sides::Records;
 use frames::frame::check;
-use frames::gather::relation;
-use model::state::Pair;
 use network::network::Network;
 use questions::Side;
 use rules::both::Both;
@@ -16,10 +15,12 @@ use rules::links::Links;
 use rules::tuner::Tuner;
 
 impl Job {
-    /// The job that an input describes. Its questions are those of the layouts: 22, 23, and 1 to 7 of either side.
+    /// The networks that an input describes. The questions are those of the layouts: 22, 23, and 1 to 7 of either side. An
+    /// input that passes them has at most 1,022 pairs.
     pub fn load(bytes: &[u8]) -> Result<Job, JobFault>
         ensures refuses { refusal_of job_refusal result ≡ first_no (layouts_asked bytes.now) }
         ensures loads { IfOk result (Loaded bytes.now) }
+        ensures few { OnOk result (length (relation_of bytes.now) ≤ 1022) }
     {
         check(bytes)?;
         let left = Records {
@@ -32,13 +33,7 @@ impl Job {
         };
         let left = left.load()?;
         let right = right.load()?;
-        // there is room for the pairs of every input that has passed its first questions
-        let relation = relation(bytes).unwrap();
-        Ok(Job {
-            left,
-            right,
-            relation,
-        })
+        Ok(Job { left, right })
     }
 
     /// The left network.
@@ -53,12 +48,5 @@ impl Job {
         ensures { result.now ≡ self.now.right }
     {
         &self.right
-    }
-
-    /// The pairs, in the order of the input.
-    pub fn relation(&self) -> &[Pair]
-        ensures { result.now ≡ self.now.relation.items }
-    {
-        self.relation.as_slice()
     }
 }
