@@ -1,6 +1,7 @@
 ghost use Rattle.std.specs.Prelude.{◌≡◌, ◌<◌, length, Some, slice_get};
 ghost use Rattle.questions.specs.Asking.{first_no};
 ghost use Rattle.judge.specs.Judged.{judge_asked, judge_refusal};
+ghost use Rattle.frames.specs.Payloads.{relation_of};
 ghost use Rattle.job.specs.Jobs.{compared_in, Loaded};
 ghost use Rattle.job.specs.Verdicts.{answer_of};
 ghost use Rattle.words.specs.Steps.{IsStep};
@@ -8,7 +9,7 @@ ghost use Rattle.words.specs.Explaining.{answer_in, Shows, ShowsStep};
 
 use crate::step::ShownStep;
 use crate::told::Told;
-use frames::gather::setting;
+use frames::gather::{MOST_PAIRS, relation, setting};
 use job::job::Job;
 use judge::fault::Fault;
 use judge::verdict::judge;
@@ -44,12 +45,12 @@ fn pair_at(relation: &[Pair], number: usize) -> Pair
 }
 
 /// The step that the fault is about, where it is about one.
-fn step_of(bytes: &[u8], job: &Job, fault: Fault) -> Option<ShownStep>
+fn step_of(bytes: &[u8], job: &Job, pairs: &[Pair], fault: Fault) -> Option<ShownStep>
     requires loaded { Loaded bytes.now job.now }
+    requires pairs { pairs.now ≡ relation_of bytes.now }
     requires told { Some (judge_refusal fault) ≡ first_no (judge_asked (compared_in bytes.now)) }
     ensures { ShowsStep bytes.now fault result }
 {
-    let pairs = job.relation();
     match fault {
         Fault::LeftStep { pair, step } => {
             let units = setting(bytes, Side::Left).units;
@@ -79,13 +80,15 @@ pub fn explain(heap: Global, bytes: &[u8]) -> Told
         Ok(job) => job,
         Err(fault) => return Told::Malformed(fault),
     };
-    match judge(heap, job.left(), job.right(), job.relation()) {
+    // there is room for the pairs of every input that has passed its first questions
+    let pairs = relation::<MOST_PAIRS>(bytes).unwrap();
+    match judge(heap, job.left(), job.right(), pairs.as_slice()) {
         Ok(pass) => Told::Accepted {
             count: pass.count(),
         },
         Err(fault) => Told::Unlike {
             fault,
-            step: step_of(bytes, &job, fault),
+            step: step_of(bytes, &job, pairs.as_slice(), fault),
         },
     }
 }

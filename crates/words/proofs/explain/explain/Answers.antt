@@ -1,7 +1,8 @@
-use Rattle.std.proofs.Common.{Some, None, ap, sym, ◌∙◌}
+use Rattle.std.proofs.Common.{◌≡◌, None, ap, ◌∙◌, rules}
 use Rattle.questions.specs.Asking.{first_no}
 use Rattle.judge.specs.Judged.{judge_asked}
 use Rattle.verdict.specs.declared.answer.Answer.TheVariants.{Accepted}
+use Rattle.frames.specs.Payloads.{relation_of}
 use Rattle.job.specs.Sides.{loaded_meaning}
 use Rattle.job.specs.Verdicts.{answer_by, pair_count}
 use Rattle.job.proofs.Judging.{layouts_first, read_is, judge_then, judge_counted}
@@ -16,15 +17,19 @@ returns-in-Ok-judge-clause-answers c =
     let l = c.in-Ok.ensures in
     let left = ap (λ n. loaded_meaning n.table n.rule) c.left.ensures ∙ l.loads.left in
     let right = ap (λ n. loaded_meaning n.table n.rule) c.right.ensures ∙ l.loads.right in
-    let whole = c.relation.ensures ∙ l.loads.relation in
-    let count = judge_counted bytes l.refuses _ _ c.relation.result.now left right whole _ (c.count.ensures ∙ c.in-Ok-judge.ensures.counts) in
-    ap Accepted count ∙ ap (answer_by (pair_count bytes)) (judge_then bytes l.refuses _ _ c.relation.result.now left right whole None c.in-Ok-judge.ensures.refuses)
+    let items : c.unwrap-pairs.result.items ≡ relation_of bytes = search rules in
+    let whole = c.as_slice.ensures.value ∙ items in
+    let count = judge_counted bytes l.refuses _ _ c.as_slice.result.now left right whole _ (c.count.ensures ∙ c.in-Ok-judge.ensures.counts) in
+    ap Accepted count ∙ ap (answer_by (pair_count bytes)) (judge_then bytes l.refuses _ _ c.as_slice.result.now left right whole None c.in-Ok-judge.ensures.refuses)
 
 pub step_of-requires-clause-told : goal.step_of-requires-clause-told
 step_of-requires-clause-told c =
+    let bytes = c.args.bytes.now in
     let l = c.in-Ok.ensures in
-    let same = read_is c.args.bytes.now l.refuses _ _ c.relation.result.now (ap (λ n. loaded_meaning n.table n.rule) c.left.ensures ∙ l.loads.left) (ap (λ n. loaded_meaning n.table n.rule) c.right.ensures ∙ l.loads.right) (c.relation.ensures ∙ l.loads.relation) in
-    c.in-Err-judge.ensures.refuses ∙ ap (λ x. first_no (judge_asked x)) same
+    let left = ap (λ n. loaded_meaning n.table n.rule) c.left.ensures ∙ l.loads.left in
+    let right = ap (λ n. loaded_meaning n.table n.rule) c.right.ensures ∙ l.loads.right in
+    let items : c.unwrap-pairs.result.items ≡ relation_of bytes = search rules in
+    c.in-Err-judge.ensures.refuses ∙ ap (λ x. first_no (judge_asked x)) (read_is bytes l.refuses _ _ c.as_slice.result.now left right (c.as_slice.ensures.value ∙ items))
 
 pub returns-in-Err-judge-clause-answers : goal.returns-in-Err-judge-clause-answers
 returns-in-Err-judge-clause-answers c =
@@ -32,4 +37,5 @@ returns-in-Err-judge-clause-answers c =
     let l = c.in-Ok.ensures in
     let left = ap (λ n. loaded_meaning n.table n.rule) c.left.ensures ∙ l.loads.left in
     let right = ap (λ n. loaded_meaning n.table n.rule) c.right.ensures ∙ l.loads.right in
-    ap (answer_by (pair_count bytes)) (judge_then bytes l.refuses _ _ c.relation.result.now left right (c.relation.ensures ∙ l.loads.relation) _ c.in-Err-judge.ensures.refuses)
+    let items : c.unwrap-pairs.result.items ≡ relation_of bytes = search rules in
+    ap (answer_by (pair_count bytes)) (judge_then bytes l.refuses _ _ c.as_slice.result.now left right (c.as_slice.ensures.value ∙ items) _ c.in-Err-judge.ensures.refuses)
