@@ -11,7 +11,6 @@ use questions::Refusal;
 use rows::row::{Guard, Operand};
 use rules::fault::RuleFault;
 use rules::link::NoLinkKind;
-use std::alloc::Global;
 use std::test::Fail;
 use systems::System;
 use tables::TableFault;
@@ -24,9 +23,9 @@ const ROWS: [u8; 32] = [
     0,
 ];
 
-fn network(heap: Global, units: usize, limit: u32) -> Result<Network<AtMost>, Fail> {
+fn network(units: usize, limit: u32) -> Result<Network<AtMost>, Fail> {
     let range = Range::new(-2, 2)?;
-    Ok(Network::load(heap, range, FREE, units, &ROWS, AtMost { limit })?)
+    Ok(Network::load(range, FREE, units, &ROWS, AtMost { limit })?)
 }
 
 fn unit(location: u8, first: Value, groups: u8) -> UnitState {
@@ -70,7 +69,7 @@ fn is_step(
 
 #[test]
 fn broadcast_on_a_free_group(rt: HostRuntime) -> Result<(), Fail> {
-    let net = network(rt.alloc(), 1, 1)?;
+    let net = network(1, 1)?;
     let state = one(unit(0, 0, 1));
     assert_eq!(rt; net.step_count(&state), 1);
     assert!(rt; is_step(&net, &state, 0, SENT, 2, &one(unit(1, 0, 1))));
@@ -83,7 +82,7 @@ fn broadcast_on_a_free_group(rt: HostRuntime) -> Result<(), Fail> {
 
 #[test]
 fn movements_keep_the_free_part(rt: HostRuntime) -> Result<(), Fail> {
-    let net = network(rt.alloc(), 1, 2)?;
+    let net = network(1, 2)?;
     let state = one(unit(0, 0, 1));
     assert_eq!(rt; net.step_count(&state), 8);
     for (step, set) in [(0, 3), (1, 5), (2, 9), (3, 17), (4, 33), (5, 65), (6, 129)] {
@@ -104,7 +103,7 @@ fn movements_keep_the_free_part(rt: HostRuntime) -> Result<(), Fail> {
 
 #[test]
 fn hidden_broadcast_is_silent(rt: HostRuntime) -> Result<(), Fail> {
-    let net = network(rt.alloc(), 1, 1)?;
+    let net = network(1, 1)?;
     let state = one(unit(0, 0, 2));
     assert_eq!(rt; net.step_count(&state), 8);
     assert!(rt; is_step(&net, &state, 0, Label::Movement, 0, &one(unit(0, 0, 0))));
@@ -114,7 +113,7 @@ fn hidden_broadcast_is_silent(rt: HostRuntime) -> Result<(), Fail> {
 
 #[test]
 fn broadcast_is_lost_or_received(rt: HostRuntime) -> Result<(), Fail> {
-    let net = network(rt.alloc(), 2, 1)?;
+    let net = network(2, 1)?;
     let sender = unit(0, 0, 1);
     let after = unit(1, 0, 1);
     let state = two(sender, unit(2, 0, 1));
@@ -128,7 +127,7 @@ fn broadcast_is_lost_or_received(rt: HostRuntime) -> Result<(), Fail> {
 
 #[test]
 fn unlinked_unit_stays(rt: HostRuntime) -> Result<(), Fail> {
-    let net = network(rt.alloc(), 2, 1)?;
+    let net = network(2, 1)?;
     let state = two(unit(0, 0, 1), unit(2, 0, 2));
     assert_eq!(rt; net.step_count(&state), 8);
     let moved = two(unit(0, 0, 1), unit(2, 0, 0));
@@ -148,7 +147,7 @@ fn less_is_signed(rt: HostRuntime) {
 
 #[test]
 fn unlawful_states_have_no_steps(rt: HostRuntime) -> Result<(), Fail> {
-    let net = network(rt.alloc(), 1, 1)?;
+    let net = network(1, 1)?;
     let state = one(unit(0, 3, 1));
     assert!(rt; !net.is_lawful(&state));
     assert_eq!(rt; net.step_count(&state), 0);
@@ -157,30 +156,24 @@ fn unlawful_states_have_no_steps(rt: HostRuntime) -> Result<(), Fail> {
 }
 
 /// Whether a network of so many units and these rows is refused with the question and the row number.
-fn is_refused(
-    heap: Global,
-    units: usize,
-    rows: &[u8],
-    question: u8,
-    item: usize,
-) -> Result<bool, Fail> {
+fn is_refused(units: usize, rows: &[u8], question: u8, item: usize) -> Result<bool, Fail> {
     let range = Range::new(-2, 2)?;
-    let network = Network::load(heap, range, FREE, units, rows, AtMost { limit: 1 });
-    let refusal = network.err().and_then(|fault| fault.refusal());
+    let network = Network::load(range, FREE, units, rows, AtMost { limit: 1 });
+    let refusal = network.err().map(|fault| fault.refusal());
     Ok(refusal == Some(Refusal::of(question, item)))
 }
 
 #[test]
 fn refusals_in_their_order(rt: HostRuntime) -> Result<(), Fail> {
-    assert!(rt; is_refused(rt.alloc(), 0, &ROWS, 5, 0)?);
-    assert!(rt; is_refused(rt.alloc(), 7, &ROWS[0..31], 5, 0)?);
-    assert!(rt; is_refused(rt.alloc(), 1, &ROWS[0..31], 6, 0)?);
-    assert!(rt; is_refused(rt.alloc(), 1, &[0; 1040], 6, 0)?);
+    assert!(rt; is_refused(0, &ROWS, 5, 0)?);
+    assert!(rt; is_refused(7, &ROWS[0..31], 5, 0)?);
+    assert!(rt; is_refused(1, &ROWS[0..31], 6, 0)?);
+    assert!(rt; is_refused(1, &[0; 1040], 6, 0)?);
     let mut rows = ROWS;
     rows[31] = 1;
-    assert!(rt; is_refused(rt.alloc(), 1, &rows, 7, 1)?);
+    assert!(rt; is_refused(1, &rows, 7, 1)?);
     rows[0] = 64;
-    assert!(rt; is_refused(rt.alloc(), 1, &rows, 7, 0)?);
+    assert!(rt; is_refused(1, &rows, 7, 0)?);
     Ok(())
 }
 
