@@ -15,15 +15,15 @@ use systems::System;
 
 const FREE: GroupSet = GroupSet { bits: 1 };
 
-fn network(heap: Global, units: usize, limit: u8, rows: &[u8]) -> Result<Network<Tuner>, Fail> {
+fn network(units: usize, limit: u8, rows: &[u8]) -> Result<Network<Tuner>, Fail> {
     let range = Range::new(-2, 2)?;
     let tuner = Tuner::new(limit)?;
-    Ok(Network::load(heap, range, FREE, units, rows, tuner)?)
+    Ok(Network::load(range, FREE, units, rows, tuner)?)
 }
 
-fn sheet(heap: Global, rows: &[u8]) -> Result<Sheet, Fail> {
+fn sheet(rows: &[u8]) -> Result<Sheet, Fail> {
     let range = Range::new(-2, 2)?;
-    Ok(Sheet::load(heap, range, FREE, rows)?)
+    Ok(Sheet::load(range, FREE, rows)?)
 }
 
 /// Whether these are the steps that the system lists in one pass, landings at the value included.
@@ -90,11 +90,11 @@ fn verdict_beside<L: System>(
 ) -> Result<Result<usize, Refusal>, Fail> {
     match right {
         Source::Network { units, limit, rows } => {
-            let right = network(heap, units, limit, rows)?;
+            let right = network(units, limit, rows)?;
             Ok(verdict(heap, left, &right, relation))
         }
         Source::Sheet { rows } => {
-            let right = sheet(heap, rows)?;
+            let right = sheet(rows)?;
             Ok(verdict(heap, left, &right, relation))
         }
     }
@@ -108,11 +108,11 @@ fn verdict_on(
 ) -> Result<Result<usize, Refusal>, Fail> {
     match left {
         Source::Network { units, limit, rows } => {
-            let left = network(heap, units, limit, rows)?;
+            let left = network(units, limit, rows)?;
             verdict_beside(heap, &left, right, relation)
         }
         Source::Sheet { rows } => {
-            let left = sheet(heap, rows)?;
+            let left = sheet(rows)?;
             verdict_beside(heap, &left, right, relation)
         }
     }
@@ -124,12 +124,12 @@ fn holds(heap: Global, example: &Example) -> Result<bool, Fail> {
             of: Source::Network { units, limit, rows },
             state,
             steps,
-        } => has_steps(heap, &network(heap, *units, *limit, rows)?, state, steps),
+        } => has_steps(heap, &network(*units, *limit, rows)?, state, steps),
         Example::Steps {
             of: Source::Sheet { rows },
             state,
             steps,
-        } => has_steps(heap, &sheet(heap, rows)?, state, steps),
+        } => has_steps(heap, &sheet(rows)?, state, steps),
         Example::Verdict {
             left,
             right,
