@@ -31,14 +31,14 @@ const LEFT: Side = Side::Left;
 
 const RIGHT: Side = Side::Right;
 
-fn network(heap: Global, hi: Value) -> Result<Network<Tuner>, Fail> {
+fn network(hi: Value) -> Result<Network<Tuner>, Fail> {
     let range = Range::new(-2, hi)?;
-    Ok(Network::load(heap, range, GroupSet { bits: 1 }, 1, &SENDS, Tuner::new(1)?)?)
+    Ok(Network::load(range, GroupSet { bits: 1 }, 1, &SENDS, Tuner::new(1)?)?)
 }
 
-fn sheet(heap: Global) -> Result<Sheet, Fail> {
+fn sheet() -> Result<Sheet, Fail> {
     let range = Range::new(-2, 2)?;
-    Ok(Sheet::load(heap, range, GroupSet { bits: 1 }, &RECEIVES)?)
+    Ok(Sheet::load(range, GroupSet { bits: 1 }, &RECEIVES)?)
 }
 
 /// The first unit at that location, on those groups, and no other unit.
@@ -76,7 +76,7 @@ fn answered<L: System, R: System>(
 #[test]
 fn a_play_between_networks(rt: HostRuntime) -> Result<(), Fail> {
     let heap = rt.alloc();
-    let network = network(heap, 2)?;
+    let network = network(2)?;
     let relation = [alike(0, 1), alike(1, 1)];
     let comparison = Comparison {
         left: &network,
@@ -103,7 +103,7 @@ fn a_play_between_networks(rt: HostRuntime) -> Result<(), Fail> {
 #[test]
 fn values_told_to_a_receive(rt: HostRuntime) -> Result<(), Fail> {
     let heap = rt.alloc();
-    let sheet = sheet(heap)?;
+    let sheet = sheet()?;
     let relation = [alike(0, 0), alike(1, 0), alike(2, 0), alike(1, 0)];
     let comparison = Comparison {
         left: &sheet,
@@ -120,7 +120,7 @@ fn values_told_to_a_receive(rt: HostRuntime) -> Result<(), Fail> {
 #[test]
 fn a_receive_is_refused_a_value_out_of_range(rt: HostRuntime) -> Result<(), Fail> {
     let heap = rt.alloc();
-    let sheet = sheet(heap)?;
+    let sheet = sheet()?;
     let relation = [alike(0, 0), alike(1, 0), alike(2, 0)];
     let comparison = Comparison {
         left: &sheet,
@@ -141,7 +141,7 @@ fn a_receive_is_refused_a_value_out_of_range(rt: HostRuntime) -> Result<(), Fail
 #[test]
 fn challenges_that_are_refused(rt: HostRuntime) -> Result<(), Fail> {
     let heap = rt.alloc();
-    let (wide, narrow) = (network(heap, 2)?, network(heap, 1)?);
+    let (wide, narrow) = (network(2)?, network(1)?);
     let relation = [alike(0, 1), alike(1, 1)];
     let full = vec![in heap; alike(0, 1); 4097]?;
     let pass = judge(heap, &wide, &wide, &relation)?;
@@ -172,7 +172,7 @@ fn challenges_that_are_refused(rt: HostRuntime) -> Result<(), Fail> {
 #[test]
 fn replies_and_settles_that_are_refused(rt: HostRuntime) -> Result<(), Fail> {
     let heap = rt.alloc();
-    let (wide, narrow) = (network(heap, 2)?, network(heap, 1)?);
+    let (wide, narrow) = (network(2)?, network(1)?);
     let relation = [alike(0, 1), alike(1, 1)];
     // In the second one the present pair has no steps; in the third it has, but their landings are no record.
     let done = [alike(1, 1), alike(0, 1)];
@@ -218,8 +218,8 @@ fn the_first_reply_and_the_first_record(rt: HostRuntime) -> Result<(), Fail> {
     let heap = rt.alloc();
     let range = Range::new(-2, 2)?;
     let channels = GroupSet { bits: 1 };
-    let left = Sheet::load(heap, range, channels, &sends(1))?;
-    let right = Sheet::load(heap, range, channels, &sends(2))?;
+    let left = Sheet::load(range, channels, &sends(1))?;
+    let right = Sheet::load(range, channels, &sends(2))?;
     let start = alike(0, 0);
     let end = Pair {
         left: state(1, 0),
@@ -244,7 +244,7 @@ fn the_first_reply_and_the_first_record(rt: HostRuntime) -> Result<(), Fail> {
 #[test]
 fn a_list_of_calls(rt: HostRuntime) -> Result<(), Fail> {
     let heap = rt.alloc();
-    let network = network(heap, 2)?;
+    let network = network(2)?;
     let relation = [alike(0, 1), alike(1, 1)];
     let comparison = Comparison {
         left: &network,
@@ -283,7 +283,7 @@ fn a_list_of_calls(rt: HostRuntime) -> Result<(), Fail> {
 #[test]
 fn no_call_is_made_without_a_play(rt: HostRuntime) -> Result<(), Fail> {
     let heap = rt.alloc();
-    let sheet = sheet(heap)?;
+    let sheet = sheet()?;
     let relation = [alike(0, 0), alike(1, 0), alike(2, 0)];
     let mut attempts = [Attempt::of(Call::Reply)];
     let whole = Comparison {
