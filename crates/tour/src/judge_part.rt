@@ -50,8 +50,8 @@ fn alike(number: u8) -> Pair {
 }
 
 pub fn show_judge(rt: &HostRuntime) -> anyhow::Result<()> {
-    let four = worked_sheet(rt, &FOUR_ROWS)?;
-    let three = worked_sheet(rt, &THREE_ROWS)?;
+    let four = worked_sheet(&FOUR_ROWS)?;
+    let three = worked_sheet(&THREE_ROWS)?;
     let relation = [alike(0), alike(1), alike(2)];
     show_verdict(
         rt,

@@ -19,10 +19,10 @@ const ROWS: [u8; 32] = [
 const BROADCAST: [u8; 6] = [0, 2, 1, 0xFE, 1, 1];
 
 /// The network of these rows over the range -2 to 2, with the free group 0.
-fn worked_network(rt: &HostRuntime, units: usize, limit: u8) -> anyhow::Result<Network<Tuner>> {
+fn worked_network(units: usize, limit: u8) -> anyhow::Result<Network<Tuner>> {
     let range = Range::new(-2, 2)?;
     let tuner = Tuner::new(limit)?;
-    Ok(Network::load(rt.alloc(), range, GroupSet { bits: 1 }, units, &ROWS, tuner)?)
+    Ok(Network::load(range, GroupSet { bits: 1 }, units, &ROWS, tuner)?)
 }
 
 /// A unit at a location, on a set, with zero registers.
@@ -48,13 +48,13 @@ fn two(first: UnitState, second: UnitState) -> State {
 }
 
 pub fn show_networks(rt: &HostRuntime) -> anyhow::Result<()> {
-    let network = worked_network(rt, 1, 1)?;
+    let network = worked_network(1, 1)?;
     println!(rt; "one unit, at most one group: a broadcast on a free group, then on a hidden one")?;
     show_steps(rt, &network, &one(unit_at(0, 1)), 1)?;
     show_steps(rt, &network, &one(unit_at(0, 2)), 1)?;
     println!(rt; "one unit, at most two groups: movements keep the free group")?;
-    show_steps(rt, &worked_network(rt, 1, 2)?, &one(unit_at(0, 1)), 1)?;
-    let network = worked_network(rt, 2, 1)?;
+    show_steps(rt, &worked_network(1, 2)?, &one(unit_at(0, 1)), 1)?;
+    let network = worked_network(2, 1)?;
     println!(rt; "two units that are linked: a broadcast is lost or heard")?;
     show_steps(rt, &network, &two(unit_at(0, 1), unit_at(2, 1)), 2)?;
     println!(rt; "two units that are not linked")?;
@@ -62,7 +62,7 @@ pub fn show_networks(rt: &HostRuntime) -> anyhow::Result<()> {
 }
 
 pub fn show_judged(rt: &HostRuntime) -> anyhow::Result<()> {
-    let network = worked_network(rt, 1, 1)?;
+    let network = worked_network(1, 1)?;
     let s0 = one(unit_at(0, 1));
     let s1 = one(unit_at(1, 1));
     let both = [
@@ -105,7 +105,7 @@ pub fn show_judged(rt: &HostRuntime) -> anyhow::Result<()> {
         &network,
         &hidden,
     )?;
-    let sheet = worked_sheet(rt, &BROADCAST)?;
+    let sheet = worked_sheet(&BROADCAST)?;
     let mixed = [
         Pair {
             left: s0,
@@ -117,7 +117,7 @@ pub fn show_judged(rt: &HostRuntime) -> anyhow::Result<()> {
         },
     ];
     show_verdict(rt, "a network against a sheet", &network, &sheet, &mixed)?;
-    let looser = worked_network(rt, 1, 2)?;
+    let looser = worked_network(1, 2)?;
     show_verdict(
         rt,
         "at most one group against at most two",

@@ -55,7 +55,7 @@ fn alike(number: u8) -> Pair {
 }
 
 pub fn show_play(rt: &HostRuntime) -> anyhow::Result<()> {
-    let sheet = worked_sheet(rt, &FOUR_ROWS)?;
+    let sheet = worked_sheet(&FOUR_ROWS)?;
     let relation = [alike(0), alike(1), alike(2)];
     let comparison = Comparison {
         left: &sheet,

@@ -31,7 +31,7 @@ fn show(rt: &HostRuntime, what: &str, refusal: Option<Refusal>) -> anyhow::Resul
 }
 
 fn refusal_of<T: Drop>(made: Result<T, RuleFault>) -> Option<Refusal> {
-    made.err().and_then(|fault| fault.refusal())
+    made.err().map(|fault| fault.refusal())
 }
 
 fn refusal_of_range(lo: i8, hi: i8) -> Option<Refusal> {
@@ -44,12 +44,12 @@ fn refusal_of_placement(units: usize) -> Option<Refusal> {
         .map(|fault| fault.refusal())
 }
 
-fn refusal_of_parking(rt: &HostRuntime, bytes: &[u8]) -> Option<Refusal> {
-    refusal_of(Parking::load(rt.alloc(), bytes))
+fn refusal_of_parking(bytes: &[u8]) -> Option<Refusal> {
+    refusal_of(Parking::load(bytes))
 }
 
-fn refusal_of_links(rt: &HostRuntime, bytes: &[u8]) -> Option<Refusal> {
-    refusal_of(Links::load(rt.alloc(), bytes))
+fn refusal_of_links(bytes: &[u8]) -> Option<Refusal> {
+    refusal_of(Links::load(bytes))
 }
 
 pub fn show_refusals(rt: &HostRuntime) -> anyhow::Result<()> {
@@ -58,26 +58,26 @@ pub fn show_refusals(rt: &HostRuntime) -> anyhow::Result<()> {
     show(rt, "placement of 6 units", refusal_of_placement(6))?;
     show(rt, "placement of 7 units", refusal_of_placement(7))?;
     show(rt, "placement of 0 units", refusal_of_placement(0))?;
-    show(rt, "parking, no record", refusal_of_parking(rt, &[]))?;
-    show(rt, "parking, 48 records", refusal_of_parking(rt, &[0; 96]))?;
-    show(rt, "parking, 49 records", refusal_of_parking(rt, &[0; 98]))?;
-    show(rt, "parking, 3 bytes", refusal_of_parking(rt, &[0, 1, 0]))?;
+    show(rt, "parking, no record", refusal_of_parking(&[]))?;
+    show(rt, "parking, 48 records", refusal_of_parking(&[0; 96]))?;
+    show(rt, "parking, 49 records", refusal_of_parking(&[0; 98]))?;
+    show(rt, "parking, 3 bytes", refusal_of_parking(&[0, 1, 0]))?;
     show(
         rt,
         "parking, unit 6 in record 1",
-        refusal_of_parking(rt, &[0, 1, 6, 1]),
+        refusal_of_parking(&[0, 1, 6, 1]),
     )?;
-    show(rt, "links, 16 records", refusal_of_links(rt, &[1; 48]))?;
-    show(rt, "links, 17 records", refusal_of_links(rt, &[1; 51]))?;
+    show(rt, "links, 16 records", refusal_of_links(&[1; 48]))?;
+    show(rt, "links, 17 records", refusal_of_links(&[1; 51]))?;
     show(
         rt,
         "links, kind 3 in record 0",
-        refusal_of_links(rt, &[3, 0, 1]),
+        refusal_of_links(&[3, 0, 1]),
     )?;
     show(
         rt,
         "links, unit 6 in record 2",
-        refusal_of_links(rt, &[1, 0, 1, 2, 0, 2, 1, 0, 6]),
+        refusal_of_links(&[1, 0, 1, 2, 0, 2, 1, 0, 6]),
     )?;
     show(rt, "tuner with limit 8", refusal_of(Tuner::new(8)))?;
     show(rt, "tuner with limit 9", refusal_of(Tuner::new(9)))

@@ -57,21 +57,21 @@ struct Asked {
     both: Both<Links, Tuner>,
 }
 
-fn rules_asked(rt: &HostRuntime) -> anyhow::Result<Asked> {
+fn rules_asked() -> anyhow::Result<Asked> {
     let tuner = Tuner::new(2)?;
     Ok(Asked {
-        parking: Parking::load(rt.alloc(), &PLACES)?,
-        links: Links::load(rt.alloc(), &JOINED_AND_APART)?,
+        parking: Parking::load(&PLACES)?,
+        links: Links::load(&JOINED_AND_APART)?,
         tuner,
         both: Both {
-            one: Links::load(rt.alloc(), &JOINED)?,
+            one: Links::load(&JOINED)?,
             other: tuner,
         },
     })
 }
 
 pub fn show_rules(rt: &HostRuntime) -> anyhow::Result<()> {
-    let asked = rules_asked(rt)?;
+    let asked = rules_asked()?;
     println!(rt; "parking: 0 on {{0}} or {{0, 1}}, 1 on {{0}} or {{2}}, 2 on {{3}}")?;
     println!(rt;
         "links: 0 and 1 joined, 0 and 2 apart; tuner: at most 2 groups; both: 0 and 1 joined, at most 2 groups"

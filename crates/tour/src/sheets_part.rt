@@ -14,13 +14,13 @@ pub const FOUR_ROWS: [u8; 24] = [
 pub const THREE_ROWS: [u8; 18] = [0, 3, 1, 0, 1, 1, 0, 3, 1, 0, 2, 2, 1, 2, 1, 0xFE, 2, 2];
 
 /// The sheet of these rows, over the range -2 to 2 and the channel set {0}.
-pub fn worked_sheet(rt: &HostRuntime, rows: &[u8]) -> anyhow::Result<Sheet> {
+pub fn worked_sheet(rows: &[u8]) -> anyhow::Result<Sheet> {
     let range = Range::new(-2, 2)?;
-    Ok(Sheet::load(rt.alloc(), range, GroupSet { bits: 1 }, rows)?)
+    Ok(Sheet::load(range, GroupSet { bits: 1 }, rows)?)
 }
 
 pub fn show_sheets(rt: &HostRuntime) -> anyhow::Result<()> {
-    let sheet = worked_sheet(rt, &FOUR_ROWS)?;
+    let sheet = worked_sheet(&FOUR_ROWS)?;
     for number in 0..3u8 {
         show_steps(rt, &sheet, &state_at(number), 1)?;
     }

@@ -39,7 +39,7 @@ fn show_step<S: System>(
     match label {
         Label::Receive { groups: _ } => {
             println!(rt; "  step {step}: {label}")?;
-            for value in range.lo..=range.hi {
+            for value in range.lo()..=range.hi() {
                 print!(rt; "    at {value} to")?;
                 show_landing(rt, system, state, step, value, units)?;
             }
@@ -47,7 +47,7 @@ fn show_step<S: System>(
         }
         _ => {
             print!(rt; "  step {step}: {label}, to")?;
-            show_landing(rt, system, state, step, range.lo, units)
+            show_landing(rt, system, state, step, range.lo(), units)
         }
     }
 }
