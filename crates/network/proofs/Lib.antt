@@ -5,3 +5,5 @@ pub mod Landed
 pub mod Few
 pub mod Admitted
 pub mod Received
+pub mod Words
+pub mod Shown

@@ -1,8 +1,9 @@
 -- What a network means: its lawful states, the sets they show, and their steps.
-use Rattle.std.specs.Prelude.{ℕ, Bool, cond, not, ◌&&◌, List, [], ◌++◌, map, take, pos, fold, filter, ◌==◌, nat_le, nat_lt}
+use Rattle.std.specs.Prelude.{◌≡◌, ℕ, ◌<◌, ◌≤◌, Bool, true, cond, not, ◌&&◌, Decides, List, [], ◌++◌, map, take, ℤ, pos, ◌≤ℤ◌, fold, filter, ◌==◌, nat_le, nat_lt}
 use Rattle.std.specs.List.{range_with_len, flat_map}
 use Rattle.lists.specs.Words.{every}
-use Rattle.model.specs.GroupSets.{part, union_of}
+use Rattle.model.specs.Bytes.{zero_unit}
+use Rattle.model.specs.GroupSets.{has, part, union_of}
 use Rattle.model.specs.Ranges.{in_range}
 use Rattle.model.specs.declared.group_set.GroupSet.{GroupSet}
 use Rattle.model.specs.declared.state.State.{State}
@@ -52,9 +53,26 @@ slot_lawful n s j = cond (nat_lt j n.units) (unit_in_range n (unit_at s j)) (zer
 abbrev pub lawful : Net → (List GroupSet → Bool) → State → Bool
 lawful n allowed s = every (slot_lawful n s) (range_with_len 0 6) && allowed (placed n s)
 
+-- the value v lies between lo and hi
+abbrev pub Between : ℤ → ℤ → ℤ → Type 0
+Between lo hi v = (lo ≤ℤ v) × (v ≤ℤ hi)
+
+-- a lawful state, in words: each unit is at a location from 0 to 63 and has its registers in range, the slots past the last
+-- unit hold zero bytes, and the rule allows the placement
+pub record Lawful (n : Net) (allowed : List GroupSet → Bool) (s : State) : Type 0 where
+  pub located : (j : ℕ) → j < n.units → (unit_at s j).location ≤ 63
+  pub first_kept : (j : ℕ) → j < n.units → Between n.lo n.hi (unit_at s j).first
+  pub second_kept : (j : ℕ) → j < n.units → Between n.lo n.hi (unit_at s j).second
+  pub spare : (j : ℕ) → n.units ≤ j → j < 6 → unit_at s j ≡ zero_unit
+  pub placement : allowed (placed n s) ≡ true
+
 -- the free part of the union of the units' sets
 abbrev pub union_shown : Net → State → GroupSet
 union_shown n s = part n.free (fold (λ g x. union_of g x.groups) (set_of 0) (take n.units s.units))
+
+-- a group is in the set exactly if it is free and some unit sits on it
+abbrev pub Shows : Net → State → GroupSet → Type 0
+Shows n s g = (k : ℕ) → Decides (has g k) ((has n.free k ≡ true) × (j : ℕ) × (j < n.units) × (has (unit_at s j).groups k ≡ true))
 
 -- the ways of a lawful state; any other state has none
 abbrev pub lawful_ways : Net → (List GroupSet → Bool) → State → List Way

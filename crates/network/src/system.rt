@@ -1,11 +1,11 @@
-ghost use Rattle.std.specs.Prelude.{◌≡◌, ◌++◌, true, cond, map, OnOk, OnErr, None};
+ghost use Rattle.std.specs.Prelude.{◌≡◌, ◌++◌, true, cond, map, Decides, OnOk, OnErr, None};
 ghost use Rattle.std.specs.List.{slice_get};
 ghost use Rattle.lists.specs.Words.{through, Extends};
 ghost use Rattle.model.specs.Ranges.{in_range};
 ghost use Rattle.ways.specs.Landings.{landing_of, listed_of};
 ghost use Rattle.ways.specs.Nets.{net_of};
 ghost use Rattle.ways.specs.Receivings.{received_by};
-ghost use Rattle.network.specs.Meanings.{lawful, ways, lawful_ways, network_meaning};
+ghost use Rattle.network.specs.Meanings.{lawful, Lawful, Shows, ways, lawful_ways, network_meaning};
 ghost use Rattle.network.specs.Steps;
 
 use crate::lawful::union_shown;
@@ -66,7 +66,7 @@ impl<R: Rule> Network<R> {
     fn landing_of(&self, state: &State, way: Option<Way>, value: Value) -> Option<State>
         ensures { result ≡ cond (in_range self.now.table.program.range.lo self.now.table.program.range.hi value) (through (λ x. landing_of (net_of self.now.table) state.now x value) way) None }
     {
-        if !self.table.program().range().holds(value) {
+        if !self.range().holds(value) {
             return None;
         }
         let way = way?;
@@ -87,11 +87,17 @@ impl<R: Rule> System for Network<R> {
         self.table.program().range()
     }
 
-    fn is_lawful(&self, state: &State) -> bool {
+    fn is_lawful(&self, state: &State) -> bool
+        ensures is { result ≡ (network_meaning (net_of self.now.table) (R.Rule.allowed self.now.rule)).lawful state.now }
+        ensures words { Decides result (Lawful (net_of self.now.table) (R.Rule.allowed self.now.rule) state.now) }
+    {
         self.is_state_lawful(state)
     }
 
-    fn shown(&self, state: &State) -> GroupSet {
+    fn shown(&self, state: &State) -> GroupSet
+        ensures is { result ≡ (network_meaning (net_of self.now.table) (R.Rule.allowed self.now.rule)).shown state.now }
+        ensures groups { let n = net_of self.now.table in lawful n (R.Rule.allowed self.now.rule) state.now ≡ true → Shows n state.now result }
+    {
         if self.is_state_lawful(state) {
             union_shown(&self.table, state)
         } else {

@@ -1,4 +1,4 @@
-use Rattle.std.proofs.Common.{◌≡◌, ◌++◌, map, vec_items, sym, ap, ◌∙◌, w8, to_z, of_z}
+use Rattle.std.proofs.Common.{◌++◌, map, vec_items, sym, ap, ◌∙◌, w8, to_z, of_z}
 use Rattle.std.proofs.lemmas.Int.{to_z-of_z}
 use Rattle.std.proofs.lemmas.List.{append_assoc, map-append}
 use Rattle.std.proofs.lemmas.Result.{IfOk-at_ok, IfOk-equal, on_err_weaker}

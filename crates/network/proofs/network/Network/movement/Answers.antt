@@ -1,4 +1,4 @@
-use Rattle.std.proofs.Common.{ℕ, ◌<◌, length, sym, ap, ◌∙◌, rules, arith}
+use Rattle.std.proofs.Common.{◌<◌, length, sym, ap, ◌∙◌, rules, arith}
 use Rattle.std.specs.List.{range_with_len, flat_map, slice_get}
 use Rattle.lists.proofs.LaidOut.{in_block, past_blocks}
 use Rattle.ways.specs.Nets.{net_of}

@@ -1,4 +1,4 @@
-use Rattle.std.proofs.Common.{◌≡◌, true, false, cond, [], ◌++◌, length, map, take, vec_items, sym, ap, ◌∙◌, arith, rules, w8, to_z, of_z}
+use Rattle.std.proofs.Common.{◌≡◌, true, false, cond, [], ◌++◌, length, map, take, vec_items, sym, ap, ◌∙◌, arith, rules, w8}
 use Rattle.std.proofs.lemmas.Int.{to_z-of_z}
 use Rattle.std.proofs.lemmas.List.{append-nil}
 use Rattle.std.proofs.lemmas.Result.{IfOk-equal, on_err_weaker}
