@@ -1,16 +1,15 @@
-ghost use Rattle.std.specs.Prelude.{◌≡◌, IfOk};
+ghost use Rattle.std.specs.Prelude.{◌≡◌};
 ghost use Rattle.model.specs.declared.label.Label.TheVariants.{Movement};
 ghost use Rattle.worked.specs.Entries.{unit, one, two};
 ghost use Rattle.worked.specs.Examples.{zero, broadcast_on_a_free_group, movements_keep_the_free_part, hidden_broadcast_is_silent, broadcast_is_lost_or_heard, unlinked_unit_cannot_hear, fe_is_less_than_0, byte_0_is_not, byte_2_is_not};
 ghost use Rattle.worked.specs.Coded.{always, entry_of};
 
 use crate::bytes::{GUARDED, ROWS};
-use crate::example::{Example, Landing, Source, Step};
+use crate::example::{Example, Landing, Source, Step, held};
 use crate::states::{one, s0, s1, two, unit, with_byte};
 use model::group_set::GroupSet;
 use model::label::Label;
 use model::state::State;
-use std::alloc::{AllocError, Global};
 
 const FREE: GroupSet = GroupSet { bits: 1 };
 
@@ -43,22 +42,22 @@ fn other_moves(set: u8) -> Step
     leads(Label::Movement, two(unit(0, 0, 1), unit(2, 0, set)))
 }
 
-pub(crate) fn broadcast_on_a_free_group(heap: Global) -> Result<Example, AllocError>
-    ensures { IfOk result (λ x. entry_of x ≡ broadcast_on_a_free_group) }
+pub(crate) fn broadcast_on_a_free_group() -> Example
+    ensures { entry_of result ≡ broadcast_on_a_free_group }
 {
-    Ok(Example::Steps {
+    Example::Steps {
         of: Source::Network {
             units: 1,
             limit: 1,
             rows: &ROWS,
         },
         state: s0(),
-        steps: Vec::from_array(heap, [leads(SENT, s1())])?,
-    })
+        steps: held(&[leads(SENT, s1())]),
+    }
 }
 
-pub(crate) fn movements_keep_the_free_part(heap: Global) -> Result<Example, AllocError>
-    ensures { IfOk result (λ x. entry_of x ≡ movements_keep_the_free_part) }
+pub(crate) fn movements_keep_the_free_part() -> Example
+    ensures { entry_of result ≡ movements_keep_the_free_part }
 {
     let steps = [
         moves(3),
@@ -70,19 +69,19 @@ pub(crate) fn movements_keep_the_free_part(heap: Global) -> Result<Example, Allo
         moves(129),
         leads(SENT, s1()),
     ];
-    Ok(Example::Steps {
+    Example::Steps {
         of: Source::Network {
             units: 1,
             limit: 2,
             rows: &ROWS,
         },
         state: s0(),
-        steps: Vec::from_array(heap, steps)?,
-    })
+        steps: held(&steps),
+    }
 }
 
-pub(crate) fn hidden_broadcast_is_silent(heap: Global) -> Result<Example, AllocError>
-    ensures { IfOk result (λ x. entry_of x ≡ hidden_broadcast_is_silent) }
+pub(crate) fn hidden_broadcast_is_silent() -> Example
+    ensures { entry_of result ≡ hidden_broadcast_is_silent }
 {
     let steps = [
         moves(0),
@@ -94,19 +93,19 @@ pub(crate) fn hidden_broadcast_is_silent(heap: Global) -> Result<Example, AllocE
         moves(128),
         leads(Label::Silent, one(unit(1, 0, 2))),
     ];
-    Ok(Example::Steps {
+    Example::Steps {
         of: Source::Network {
             units: 1,
             limit: 1,
             rows: &ROWS,
         },
         state: one(unit(0, 0, 2)),
-        steps: Vec::from_array(heap, steps)?,
-    })
+        steps: held(&steps),
+    }
 }
 
-pub(crate) fn broadcast_is_lost_or_heard(heap: Global) -> Result<Example, AllocError>
-    ensures { IfOk result (λ x. entry_of x ≡ broadcast_is_lost_or_heard) }
+pub(crate) fn broadcast_is_lost_or_heard() -> Example
+    ensures { entry_of result ≡ broadcast_is_lost_or_heard }
 {
     let sender = unit(0, 0, 1);
     let listener = unit(2, 0, 1);
@@ -123,19 +122,19 @@ pub(crate) fn broadcast_is_lost_or_heard(heap: Global) -> Result<Example, AllocE
         leads(SENT, two(sent, unit(3, -2, 1))),
         received,
     ];
-    Ok(Example::Steps {
+    Example::Steps {
         of: Source::Network {
             units: 2,
             limit: 1,
             rows: &ROWS,
         },
         state: two(sender, listener),
-        steps: Vec::from_array(heap, steps)?,
-    })
+        steps: held(&steps),
+    }
 }
 
-pub(crate) fn unlinked_unit_cannot_hear(heap: Global) -> Result<Example, AllocError>
-    ensures { IfOk result (λ x. entry_of x ≡ unlinked_unit_cannot_hear) }
+pub(crate) fn unlinked_unit_cannot_hear() -> Example
+    ensures { entry_of result ≡ unlinked_unit_cannot_hear }
 {
     let unlinked = unit(2, 0, 2);
     let steps = [
@@ -148,15 +147,15 @@ pub(crate) fn unlinked_unit_cannot_hear(heap: Global) -> Result<Example, AllocEr
         other_moves(128),
         leads(SENT, two(unit(1, 0, 1), unlinked)),
     ];
-    Ok(Example::Steps {
+    Example::Steps {
         of: Source::Network {
             units: 2,
             limit: 1,
             rows: &ROWS,
         },
         state: two(unit(0, 0, 1), unlinked),
-        steps: Vec::from_array(heap, steps)?,
-    })
+        steps: held(&steps),
+    }
 }
 
 const UNDER_GUARD: Source = Source::Network {
@@ -165,32 +164,32 @@ const UNDER_GUARD: Source = Source::Network {
     rows: &GUARDED,
 };
 
-pub(crate) fn fe_is_less_than_0(heap: Global) -> Result<Example, AllocError>
-    ensures { IfOk result (λ x. entry_of x ≡ fe_is_less_than_0) }
+pub(crate) fn fe_is_less_than_0() -> Example
+    ensures { entry_of result ≡ fe_is_less_than_0 }
 {
-    Ok(Example::Steps {
+    Example::Steps {
         of: UNDER_GUARD,
         state: with_byte(0xFE),
-        steps: Vec::from_array(heap, [leads(Label::Silent, one(unit(1, -2, 1)))])?,
-    })
+        steps: held(&[leads(Label::Silent, one(unit(1, -2, 1)))]),
+    }
 }
 
-pub(crate) fn byte_0_is_not(heap: Global) -> Example
+pub(crate) fn byte_0_is_not() -> Example
     ensures { entry_of result ≡ byte_0_is_not }
 {
     Example::Steps {
         of: UNDER_GUARD,
         state: with_byte(0x00),
-        steps: Vec::new(heap),
+        steps: held(&[]),
     }
 }
 
-pub(crate) fn byte_2_is_not(heap: Global) -> Example
+pub(crate) fn byte_2_is_not() -> Example
     ensures { entry_of result ≡ byte_2_is_not }
 {
     Example::Steps {
         of: UNDER_GUARD,
         state: with_byte(0x02),
-        steps: Vec::new(heap),
+        steps: held(&[]),
     }
 }

@@ -142,9 +142,7 @@ fn holds(heap: Global, example: &Example) -> Result<bool, Fail> {
 // The table is the one that is proved: here each of its examples is put to the code as it is built.
 #[test]
 fn table_holds_of_the_code(rt: HostRuntime) -> Result<(), Fail> {
-    let table = table(rt.alloc())?;
-    assert_eq!(rt; table.len(), 13);
-    for (k, example) in table.iter().enumerate() {
+    for (k, example) in table().iter().enumerate() {
         assert!(rt; holds(rt.alloc(), example)?, "example {k}");
     }
     Ok(())

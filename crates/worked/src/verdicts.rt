@@ -1,13 +1,12 @@
-ghost use Rattle.std.specs.Prelude.{◌≡◌, IfOk};
+ghost use Rattle.std.specs.Prelude.{◌≡◌};
 ghost use Rattle.worked.specs.Examples.{relation_is_accepted, left_step_has_no_reply, right_step_has_no_reply, sets_shown_differ, reply_comes_before_the_value};
 ghost use Rattle.worked.specs.Coded.{entry_of};
 
 use crate::bytes::{FOUR_ROWS, ROWS, THREE_ROWS};
-use crate::example::{Example, Source};
+use crate::example::{Example, Source, held};
 use crate::states::{one, pair, s0, s1, unit};
 use questions::{Refusal, Side};
 use sheet::states::state_at;
-use std::alloc::{AllocError, Global};
 
 /// The system on both sides.
 const ALIKE: Source = Source::Network {
@@ -16,82 +15,82 @@ const ALIKE: Source = Source::Network {
     rows: &ROWS,
 };
 
-pub(crate) fn relation_is_accepted(heap: Global) -> Result<Example, AllocError>
-    ensures { IfOk result (λ x. entry_of x ≡ relation_is_accepted) }
+pub(crate) fn relation_is_accepted() -> Example
+    ensures { entry_of result ≡ relation_is_accepted }
 {
-    Ok(Example::Verdict {
+    Example::Verdict {
         left: ALIKE,
         right: ALIKE,
-        relation: Vec::from_array(heap, [pair(s0(), s0()), pair(s1(), s1())])?,
+        relation: held(&[pair(s0(), s0()), pair(s1(), s1())]),
         verdict: Ok(2),
-    })
+    }
 }
 
-pub(crate) fn left_step_has_no_reply(heap: Global) -> Result<Example, AllocError>
-    ensures { IfOk result (λ x. entry_of x ≡ left_step_has_no_reply) }
+pub(crate) fn left_step_has_no_reply() -> Example
+    ensures { entry_of result ≡ left_step_has_no_reply }
 {
-    Ok(Example::Verdict {
+    Example::Verdict {
         left: ALIKE,
         right: ALIKE,
-        relation: Vec::from_array(heap, [pair(s0(), s0())])?,
+        relation: held(&[pair(s0(), s0())]),
         verdict: Err(Refusal {
             question: 15,
             side: Side::Left,
             item: 0,
             step: 0,
         }),
-    })
+    }
 }
 
-pub(crate) fn right_step_has_no_reply(heap: Global) -> Result<Example, AllocError>
-    ensures { IfOk result (λ x. entry_of x ≡ right_step_has_no_reply) }
+pub(crate) fn right_step_has_no_reply() -> Example
+    ensures { entry_of result ≡ right_step_has_no_reply }
 {
-    Ok(Example::Verdict {
+    Example::Verdict {
         left: ALIKE,
         right: ALIKE,
-        relation: Vec::from_array(heap, [pair(s1(), s0())])?,
+        relation: held(&[pair(s1(), s0())]),
         verdict: Err(Refusal {
             question: 16,
             side: Side::Right,
             item: 0,
             step: 0,
         }),
-    })
+    }
 }
 
-pub(crate) fn sets_shown_differ(heap: Global) -> Result<Example, AllocError>
-    ensures { IfOk result (λ x. entry_of x ≡ sets_shown_differ) }
+pub(crate) fn sets_shown_differ() -> Example
+    ensures { entry_of result ≡ sets_shown_differ }
 {
-    Ok(Example::Verdict {
+    Example::Verdict {
         left: ALIKE,
         right: ALIKE,
-        relation: Vec::from_array(heap, [pair(s1(), one(unit(1, 0, 2)))])?,
+        relation: held(&[pair(s1(), one(unit(1, 0, 2)))]),
         verdict: Err(Refusal {
             question: 14,
             side: Side::Left,
             item: 0,
             step: 0,
         }),
-    })
+    }
 }
 
-pub(crate) fn reply_comes_before_the_value(heap: Global) -> Result<Example, AllocError>
-    ensures { IfOk result (λ x. entry_of x ≡ reply_comes_before_the_value) }
+pub(crate) fn reply_comes_before_the_value() -> Example
+    ensures { entry_of result ≡ reply_comes_before_the_value }
 {
     let relation = [
         pair(state_at(0), state_at(0)),
         pair(state_at(1), state_at(1)),
         pair(state_at(2), state_at(2)),
     ];
-    Ok(Example::Verdict {
+    Example::Verdict {
         left: Source::Sheet { rows: &FOUR_ROWS },
         right: Source::Sheet { rows: &THREE_ROWS },
-        relation: Vec::from_array(heap, relation)?,
+        relation: held(&relation),
         verdict: Err(Refusal {
             question: 15,
             side: Side::Left,
             item: 0,
             step: 2,
         }),
-    })
+    }
 }
