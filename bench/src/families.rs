@@ -51,7 +51,7 @@ pub const SERIES: [Family; 4] = [
 pub struct Dice(pub u64);
 
 impl Dice {
-    fn next(&mut self) -> u64 {
+    pub fn next(&mut self) -> u64 {
         self.0 = self.0.wrapping_add(0x9E37_79B9_7F4A_7C15);
         let mut word = self.0;
         word = (word ^ word >> 30).wrapping_mul(0xBF58_476D_1CE4_E5B9);
@@ -84,11 +84,11 @@ impl Dice {
 // ---------------------------------------------------------------- networks
 
 const OPEN: [u8; 5] = [0; 5];
-const FIRST: [u8; 2] = [0, 0];
-const SECOND: [u8; 2] = [1, 0];
-const KEEP: [[u8; 2]; 2] = [FIRST, SECOND];
+pub const FIRST: [u8; 2] = [0, 0];
+pub const SECOND: [u8; 2] = [1, 0];
+pub const KEEP: [[u8; 2]; 2] = [FIRST, SECOND];
 
-fn constant(value: i8) -> [u8; 2] {
+pub fn constant(value: i8) -> [u8; 2] {
     [2, value as u8]
 }
 
@@ -104,35 +104,35 @@ fn row(at: u8, guard: [u8; 5], action: u8, operand: [u8; 2], to: u8, new: [[u8; 
     bytes
 }
 
-fn silent(at: u8, to: u8, new: [[u8; 2]; 2]) -> [u8; 16] {
+pub fn silent(at: u8, to: u8, new: [[u8; 2]; 2]) -> [u8; 16] {
     row(at, OPEN, 0, [0, 0], to, new)
 }
 
-fn broadcast(at: u8, sent: [u8; 2], to: u8, new: [[u8; 2]; 2]) -> [u8; 16] {
+pub fn broadcast(at: u8, sent: [u8; 2], to: u8, new: [[u8; 2]; 2]) -> [u8; 16] {
     row(at, OPEN, 1, sent, to, new)
 }
 
-fn receive(at: u8, into: [u8; 2], to: u8, new: [[u8; 2]; 2]) -> [u8; 16] {
+pub fn receive(at: u8, into: [u8; 2], to: u8, new: [[u8; 2]; 2]) -> [u8; 16] {
     row(at, OPEN, 2, into, to, new)
 }
 
-fn joined(one: u8, other: u8) -> [u8; 3] {
+pub fn joined(one: u8, other: u8) -> [u8; 3] {
     [1, one, other]
 }
 
-fn apart(one: u8, other: u8) -> [u8; 3] {
+pub fn apart(one: u8, other: u8) -> [u8; 3] {
     [2, one, other]
 }
 
 #[derive(Clone)]
-struct Network {
-    lo: i8,
-    hi: i8,
-    free: u8,
-    units: u8,
-    limit: u8,
-    rows: Vec<[u8; 16]>,
-    links: Vec<[u8; 3]>,
+pub struct Network {
+    pub lo: i8,
+    pub hi: i8,
+    pub free: u8,
+    pub units: u8,
+    pub limit: u8,
+    pub rows: Vec<[u8; 16]>,
+    pub links: Vec<[u8; 3]>,
 }
 
 impl Network {
@@ -183,7 +183,7 @@ fn push(input: &mut Vec<u8>, kind: u8, side: u8, payload: &[u8]) {
     input.resize(end, 0);
 }
 
-fn input_of(left: &Network, right: &Network, pairs: &[(State, State)]) -> Vec<u8> {
+pub fn input_of(left: &Network, right: &Network, pairs: &[(State, State)]) -> Vec<u8> {
     let mut input = Vec::with_capacity(65536);
     input.extend(left.setting(0));
     input.extend(right.setting(1));
@@ -200,7 +200,7 @@ fn most_pairs(left: &Network, right: &Network) -> usize {
 }
 
 /// The state of units that are each (location, first register, second register, set).
-fn state(units: &[(u8, i8, i8, u8)]) -> State {
+pub fn state(units: &[(u8, i8, i8, u8)]) -> State {
     let mut bytes = [0; 24];
     for (slot, unit) in bytes.chunks_exact_mut(4).zip(units) {
         slot.copy_from_slice(&[unit.0, unit.1 as u8, unit.2 as u8, unit.3]);
@@ -260,14 +260,14 @@ impl Disguise {
 // ---------------------------------------------------------------- jobs from networks
 
 /// A network beside itself, or beside a disguise of it, with a relation that pairs each state with itself or its disguise.
-struct Likeness {
+pub struct Likeness {
     left: Network,
     right: Network,
-    pairs: Vec<(State, State)>,
+    pub pairs: Vec<(State, State)>,
 }
 
 impl Likeness {
-    fn of(network: &Network, states: &[State], disguised: bool, dice: &mut Dice) -> Likeness {
+    pub fn of(network: &Network, states: &[State], disguised: bool, dice: &mut Dice) -> Likeness {
         let (right, mut pairs): (Network, Vec<_>) = if disguised {
             let disguise = Disguise::of(network, dice);
             (disguise.network(network, dice), states.iter().map(|state| (*state, disguise.state(state))).collect())
@@ -278,7 +278,7 @@ impl Likeness {
         Likeness { left: network.clone(), right, pairs }
     }
 
-    fn job(&self, expected: Expected) -> Job {
+    pub fn job(&self, expected: Expected) -> Job {
         Job { input: input_of(&self.left, &self.right, &self.pairs), expected }
     }
 

@@ -4,18 +4,20 @@
 mod alone;
 mod clock;
 mod families;
+mod hostile;
 mod plain;
 mod proved;
 mod report;
 
 use families::{Expected, FAMILIES, Family, Job, SERIES};
-use report::{Measured, Side};
+use hostile::Hostile;
+use report::{Measured, Side, Told};
 use std::hint::black_box;
 use std::process::ExitCode;
 use std::time::Duration;
 
 struct Settings {
-    /// How long the proved judge has for a family's jobs, each once.
+    /// How long the proved judge has for a family's jobs, each once, and for each hostile job.
     limit: Duration,
     /// How often a family is measured, and how long a round is at the least.
     rounds: u32,
@@ -24,6 +26,12 @@ struct Settings {
 }
 
 type Failure = String;
+
+/// The family whose jobs are told one by one.
+const HOSTILE: &str = "hostile";
+
+/// The plain judge lists steps, so it is put no hostile job with more of them.
+const MOST_STEPS: u64 = 20_000_000;
 
 fn settings(words: &[String]) -> Result<Settings, Failure> {
     let mut settings =
@@ -34,7 +42,7 @@ fn settings(words: &[String]) -> Result<Settings, Failure> {
         match word.as_str() {
             "--seconds" => settings.limit = Duration::from_secs(number()?),
             "--rounds" => settings.rounds = number()?.max(1) as u32,
-            name if all().any(|family| family.name == name) => settings.names.push(name.to_owned()),
+            name if name == HOSTILE || all().any(|family| family.name == name) => settings.names.push(name.to_owned()),
             "series" => settings.names.extend(SERIES.iter().map(|family| family.name.to_owned())),
             word => return Err(format!("{word} is no family and no setting")),
         }
@@ -52,29 +60,35 @@ fn hex(bytes: &[u8]) -> String {
 
 // ---------------------------------------------------------------- one family
 
+/// Whether a verdict is one that the job was made to have.
+fn is_as_made(job: &Job, verdict: &[u8; 16]) -> bool {
+    let count = (report::pairs(&job.input) as u32).to_le_bytes();
+    match job.expected {
+        Expected::Accepted => verdict[..12] == [0; 12] && verdict[12..] == count,
+        Expected::Unanswered => verdict[0] == 15 || verdict[0] == 16,
+        Expected::Any => true,
+    }
+}
+
 /// The plain verdicts, held to what is known of them, and what was looked at.
 fn by_plain(family: &Family, jobs: &[Job]) -> Result<Vec<plain::Answer>, Failure> {
     let answers: Vec<plain::Answer> = jobs.iter().map(|job| plain::answer(&job.input)).collect();
     for (number, (job, answer)) in jobs.iter().zip(&answers).enumerate() {
-        let is_as_expected = match job.expected {
-            Expected::Accepted => answer.verdict[0] == 0,
-            Expected::Unanswered => answer.verdict[0] == 15 || answer.verdict[0] == 16,
-            Expected::Any => true,
-        };
-        if !is_as_expected {
+        if !is_as_made(job, &answer.verdict) {
             return Err(format!("{} job {number}: the plain verdict is {}", family.name, hex(&answer.verdict)));
         }
     }
     Ok(answers)
 }
 
-fn differs(family: &Family, number: usize, job: &Job, plain: &str, proved: &str) -> Failure {
-    let file = std::env::temp_dir().join(format!("differs-{}-{number}.job", family.name));
+/// The job is kept in a file.
+fn differs(name: &str, job: &Job, wanted: &str, proved: &str) -> Failure {
+    let file = std::env::temp_dir().join(format!("differs-{name}.job"));
     let kept = match std::fs::write(&file, &job.input) {
         Ok(()) => format!("the job is in {}", file.display()),
         Err(error) => format!("the job could not be kept: {error}"),
     };
-    format!("VERDICTS DIFFER: {} job {number}: plain {plain}, proved {proved}; {kept}", family.name)
+    format!("VERDICTS DIFFER: job {name}: {wanted}, proved {proved}; {kept}")
 }
 
 /// The time of one pass over the jobs, in the mean of as many passes as fill a round. Each verdict is held to the one that
@@ -104,7 +118,8 @@ fn measure(settings: &Settings, family: &'static Family) -> Result<Measured, Fai
     for (number, (done, answer)) in ran.done.iter().zip(&answers).enumerate() {
         let verdict = hex(&answer.verdict);
         if done.verdict != verdict {
-            return Err(differs(family, number, &jobs[number], &verdict, &done.verdict));
+            let name = format!("{}-{number}", family.name);
+            return Err(differs(&name, &jobs[number], &format!("plain {verdict}"), &done.verdict));
         }
     }
     let spent: Duration = ran.done.iter().map(|done| done.time).sum();
@@ -139,18 +154,90 @@ fn measure(settings: &Settings, family: &'static Family) -> Result<Measured, Fai
     })
 }
 
+// ---------------------------------------------------------------- the hostile family
+
+/// The plain judge's verdict and time, where it is put the job.
+fn plain_of(hostile: &Hostile, steps: u64) -> Result<Option<([u8; 16], Duration)>, Failure> {
+    if steps > MOST_STEPS {
+        return Ok(None);
+    }
+    let start = clock::spent();
+    let verdict = plain::answer(black_box(&hostile.job.input)).verdict;
+    let time = clock::spent() - start;
+    if is_as_made(&hostile.job, &verdict) {
+        Ok(Some((verdict, time)))
+    } else {
+        Err(format!("job {}: the plain verdict is {}", hostile.name, hex(&verdict)))
+    }
+}
+
+/// Holds the proved verdict to the plain one, and where there is none to what the job was made to have.
+fn hold(hostile: &Hostile, plain: Option<[u8; 16]>, proved: &str) -> Result<(), Failure> {
+    let (is_right, wanted) = match plain {
+        Some(verdict) => (hex(&verdict) == proved, format!("plain {}", hex(&verdict))),
+        None => {
+            let verdict = bytes_of(proved).ok_or(format!("job {}: the proved verdict is {proved}", hostile.name))?;
+            let wanted = if hostile.job.expected == Expected::Accepted { "accepted" } else { "refused by 15 or 16" };
+            (is_as_made(&hostile.job, &verdict), format!("made to be {wanted}"))
+        }
+    };
+    if is_right { Ok(()) } else { Err(differs(&hostile.name, &hostile.job, &wanted, proved)) }
+}
+
+/// A verdict from its 32 digits.
+fn bytes_of(digits: &str) -> Option<[u8; 16]> {
+    Some(u128::from_str_radix(digits, 16).ok()?.to_be_bytes())
+}
+
+/// One hostile job, by the proved judge in a process of its own.
+fn tell(settings: &Settings, hostile: &Hostile) -> Result<Told, Failure> {
+    let steps = plain::steps(&hostile.job.input);
+    let plain = plain_of(hostile, steps)?;
+    let ran = alone::run(std::slice::from_ref(&hostile.job), settings.limit)?;
+    if let Some(done) = ran.done.first() {
+        hold(hostile, plain.map(|(verdict, _)| verdict), &done.verdict)?;
+    }
+    Ok(Told {
+        name: hostile.name.clone(),
+        bytes: hostile.job.input.len(),
+        pairs: report::pairs(&hostile.job.input),
+        steps,
+        plain: plain.map(|(_, time)| time),
+        proved: ran.done.first().map_or(ran.spent, |done| done.time),
+        is_done: !ran.done.is_empty(),
+        peak: ran.done.first().map(|done| done.peak),
+    })
+}
+
+fn tell_all(settings: &Settings) -> Result<Vec<Told>, Failure> {
+    let mut told = Vec::new();
+    report::head_of_hostile();
+    for hostile in hostile::jobs() {
+        let one = tell(settings, &hostile)?;
+        report::line_of_hostile(&one);
+        told.push(one);
+    }
+    Ok(told)
+}
+
+// ---------------------------------------------------------------- all
+
 fn bench(words: &[String]) -> Result<(), Failure> {
     let settings = settings(words)?;
-    let is_wanted =
-        |family: &&Family| settings.names.is_empty() || settings.names.iter().any(|name| name == family.name);
-    report::head();
+    let is_wanted = |wanted: &str| settings.names.is_empty() || settings.names.iter().any(|name| name == wanted);
+    let families: Vec<&Family> = all().filter(|family| is_wanted(family.name)).collect();
     let mut measured = Vec::new();
-    for family in all().filter(is_wanted) {
+    if !families.is_empty() {
+        report::head();
+    }
+    for family in families {
         let one = measure(&settings, family)?;
         report::line(&one);
         measured.push(one);
     }
+    let told = if is_wanted(HOSTILE) { tell_all(&settings)? } else { vec![] };
     report::targets(&measured);
+    report::target_of_hostile(&told);
     Ok(())
 }
 
@@ -191,6 +278,10 @@ fn write(folder: &str) -> Result<(), Failure> {
             std::fs::write(&file, &job.input).map_err(|error| format!("{file}: {error}"))?;
         }
     }
+    for hostile in hostile::jobs() {
+        let file = format!("{folder}/{HOSTILE}-{}.job", hostile.name);
+        std::fs::write(&file, &hostile.job.input).map_err(|error| format!("{file}: {error}"))?;
+    }
     Ok(())
 }
 
@@ -211,6 +302,21 @@ fn plain_alone() -> Result<(), Failure> {
                 answer.landings
             );
         }
+    }
+    hostile_by_plain()
+}
+
+/// Each hostile job: its pairs, its steps, and the verdict where the plain judge is put it.
+fn hostile_by_plain() -> Result<(), Failure> {
+    let jobs = hostile::jobs();
+    println!("{HOSTILE}: enormous lists of steps, {} jobs", jobs.len());
+    for hostile in &jobs {
+        let steps = plain::steps(&hostile.job.input);
+        let answer = match plain_of(hostile, steps)? {
+            Some((verdict, time)) => format!("{} {:9.3} ms", hex(&verdict), time.as_secs_f64() * 1e3),
+            None => "too many steps".to_owned(),
+        };
+        println!("{:24} {:4} pairs {steps:15} steps {answer}", hostile.name, report::pairs(&hostile.job.input));
     }
     Ok(())
 }

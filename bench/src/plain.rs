@@ -76,6 +76,19 @@ pub fn landings(job: &[u8], side: u8, state: &[u8; 24]) -> Vec<[u8; 24]> {
     found
 }
 
+/// How many steps the states of all pairs have on both sides, of a job whose layouts are in order. They are counted, for a
+/// broadcast by a product, and not listed. No verdict uses it.
+pub fn steps(job: &[u8]) -> u64 {
+    let networks = [0, 1].map(|side| Network::load(job, side).expect("the layouts are in order"));
+    let mut choices = Choices::default();
+    let mut count = |network: &Network, bytes: &[u8]| {
+        let state = State::read(bytes);
+        if network.is_lawful(&state) { network.count(&state, &mut choices) } else { 0 }
+    };
+    let of_pair = |bytes: &[u8]| count(&networks[0], &bytes[..24]) + count(&networks[1], &bytes[24..48]);
+    payloads(job, PAIR, 0).map(of_pair).sum()
+}
+
 // ---------------------------------------------------------------- states
 
 /// A unit state in one word: location, first register, second register, set, from the lowest byte on.
@@ -416,6 +429,29 @@ impl Network {
             }
         }
         ControlFlow::Continue(())
+    }
+
+    /// How many steps a lawful state has.
+    fn count(&self, state: &State, choices: &mut Choices) -> u64 {
+        let mut count = 0;
+        for number in 0..self.units {
+            let _ = self.movements(state, number, &mut |_| {
+                count += 1;
+                ControlFlow::<()>::Continue(())
+            });
+            let by = state.0[number];
+            for row in self.rows_of(by) {
+                count += match row.action {
+                    Action::Silent => 1,
+                    Action::Broadcast(sent) => {
+                        self.fill_choices(state, number, row, sent.of(by), choices);
+                        choices[..self.units].iter().map(|outcomes| outcomes.len() as u64).product()
+                    }
+                    _ => u64::from(groups(by) & self.free != 0),
+                };
+            }
+        }
+        count
     }
 
     /// The movements of one unit. The placement is allowed as it is, so only the links of this unit are asked again.

@@ -3,10 +3,11 @@
 use crate::families::{Family, SERIES};
 use std::time::Duration;
 
-/// The targets: times of the plain judge, times for twice the pairs, and MiB.
+/// The targets: times of the plain judge, times for twice the pairs, MiB, and the time of a hostile job.
 const RATIO: f64 = 1.5;
 const GROWTH: f64 = 2.2;
 const PEAK: f64 = 64.0;
+const HOSTILE: Duration = Duration::from_secs(2);
 
 pub enum Side {
     Whole(Duration),
@@ -27,6 +28,27 @@ pub struct Measured {
     /// The most memory of the process that ran the proved judge alone, in KiB: before the first job, and in all.
     pub before: u64,
     pub peak: u64,
+}
+
+/// A hostile job.
+pub struct Told {
+    pub name: String,
+    pub bytes: usize,
+    pub pairs: usize,
+    pub steps: u64,
+    /// The plain judge's time, where it was put the job.
+    pub plain: Option<Duration>,
+    /// The proved judge's time, and whether it was done by then.
+    pub proved: Duration,
+    pub is_done: bool,
+    /// The most memory of the process that ran the proved judge, in KiB, if it was done.
+    pub peak: Option<u64>,
+}
+
+impl Told {
+    fn proved(&self) -> String {
+        if self.is_done { format!("{:.3}", millis(self.proved)) } else { format!("> {:.0}", millis(self.proved)) }
+    }
 }
 
 impl Measured {
@@ -101,6 +123,27 @@ pub fn line(one: &Measured) {
     }
 }
 
+pub fn head_of_hostile() {
+    println!();
+    println!(
+        "{:24} {:>5} {:>5} {:>15} {:>13} {:>9} {:>8}",
+        "hostile job", "bytes", "pairs", "steps", "proved ms", "plain ms", "peak MiB"
+    );
+}
+
+pub fn line_of_hostile(one: &Told) {
+    println!(
+        "{:24} {:>5} {:>5} {:>15} {:>13} {:>9} {:>8}",
+        one.name,
+        one.bytes,
+        one.pairs,
+        one.steps,
+        one.proved(),
+        one.plain.map_or(String::from("-"), |time| format!("{:.3}", millis(time))),
+        one.peak.map_or(String::from("-"), |kib| format!("{:.1}", mib(kib))),
+    );
+}
+
 /// Whether a target is met. It is open where it is met as far as was seen, and the time was over.
 fn verdict(is_whole: bool, is_met: bool) -> &'static str {
     match (is_met, is_whole) {
@@ -160,4 +203,19 @@ fn growth(measured: &[Measured]) {
             ),
         }
     }
+}
+
+/// A job that was cut off is open where the time was over before its target was.
+pub fn target_of_hostile(told: &[Told]) {
+    let Some(slowest) = told.iter().max_by_key(|one| one.proved) else { return };
+    let late = told.iter().filter(|one| one.proved > HOSTILE).count();
+    let open = told.iter().filter(|one| one.proved <= HOSTILE && !one.is_done).count();
+    println!(
+        "{} hostile: {late} of {} jobs took longer, of {open} it is not known; {} took {} ms (each within {} s)",
+        verdict(open == 0, late == 0),
+        told.len(),
+        slowest.name,
+        slowest.proved(),
+        HOSTILE.as_secs(),
+    );
 }
