@@ -1,5 +1,4 @@
 ghost use Rattle.std.specs.Prelude.{◌≡◌};
-ghost use Rattle.std.proofs.Common.{rules};
 ghost use Rattle.rows.specs.Layouts.{parse_operand, parse_guard, parse_action, parse_row};
 
 use crate::row::{Action, Guard, Operand, Register, Row};
@@ -62,13 +61,13 @@ impl RowLayout {
 }
 
 impl Layout<Row, MOST_ROWS> for RowLayout {
-    const WIDTH: usize = 16;
-
-    ghost WIDTH = { 16 };
+    ghost width = { λ _. 16 };
 
     ghost parse = { λ x. parse_row x.range.lo x.range.hi };
 
-    ghost some = { Prim.search rules };
+    fn width(&self) -> usize {
+        16
+    }
 
     fn read(&self, number: usize, bytes: &[u8]) -> Result<Row, TableFault> {
         let fault = TableFault::Record { number };

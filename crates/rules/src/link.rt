@@ -2,7 +2,6 @@ ghost use Rattle.std.specs.Prelude.{◌≡◌, ◌++◌, Some, codes, ok_or, sli
 ghost use Rattle.std.specs.List.{slice_get};
 ghost use Rattle.std.specs.Fmt.{decimal};
 ghost use Rattle.rules.specs.LinkRecords.{concerns, kind_of, link_of, met, met_by, met_of};
-ghost use Rattle.std.proofs.Common.{rules};
 
 use model::group_set::GroupSet;
 use std::error::Error;
@@ -113,13 +112,13 @@ pub const MOST_LINKS: usize = 16;
 pub struct LinkLayout;
 
 impl Layout<Link, MOST_LINKS> for LinkLayout {
-    const WIDTH: usize = 3;
-
-    ghost WIDTH = { 3 };
+    ghost width = { λ _. 3 };
 
     ghost parse = { λ _. link_of };
 
-    ghost some = { Prim.search rules };
+    fn width(&self) -> usize {
+        3
+    }
 
     fn read(&self, number: usize, bytes: &[u8]) -> Result<Link, TableFault> {
         let fault = TableFault::Record { number };

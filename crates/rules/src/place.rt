@@ -25,13 +25,13 @@ pub const MOST_PLACES: usize = 48;
 pub struct PlaceLayout;
 
 impl Layout<Place, MOST_PLACES> for PlaceLayout {
-    const WIDTH: usize = 2;
-
-    ghost WIDTH = { 2 };
+    ghost width = { λ _. 2 };
 
     ghost parse = { λ _. place_of };
 
-    ghost some = { Prim.search rules };
+    fn width(&self) -> usize {
+        2
+    }
 
     fn read(&self, number: usize, bytes: &[u8]) -> Result<Place, TableFault> {
         match bytes {

@@ -1,5 +1,4 @@
 ghost use Rattle.std.specs.Prelude.{◌≡◌};
-ghost use Rattle.std.proofs.Common.{rules};
 ghost use Rattle.sheet.specs.Rows.{carried, kind_of, parse_row};
 
 use crate::row::{Kind, Row};
@@ -53,14 +52,14 @@ impl RowLayout {
 }
 
 impl Layout<Row, MOST_ROWS> for RowLayout {
-    /// The bytes of a row: from, kind, set, value, to, other.
-    const WIDTH: usize = 6;
-
-    ghost WIDTH = { 6 };
+    ghost width = { λ _. 6 };
 
     ghost parse = { λ x. parse_row x.range.lo x.range.hi x.channels };
 
-    ghost some = { Prim.search rules };
+    fn width(&self) -> usize {
+        // from, kind, set, value, to, other
+        6
+    }
 
     fn read(&self, number: usize, bytes: &[u8]) -> Result<Row, TableFault> {
         let fault = TableFault::Record { number };

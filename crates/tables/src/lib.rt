@@ -6,6 +6,9 @@ ghost use Rattle.lists.specs.Words.{records, gathered};
 ghost use Rattle.tables.specs.Table.{Answers, table_refusal, fault_text};
 ghost use Rattle.tables.specs.declared.TableFault.TheVariants.{Record};
 
+#[cfg(test)]
+mod tests;
+
 use arrayvec::ArrayVec;
 use questions::Refusal;
 use std::error::Error;
@@ -48,18 +51,18 @@ impl Error for TableFault {}
 /// How the records of a table are laid out in bytes: how many bytes a record has, how many records a table has at the
 /// most, and what a record's bytes stand for, if they are as laid out.
 pub trait Layout<R, const MOST: usize> {
-    // a constant of the type, since no layout needs a value of its own to know it
-    const WIDTH: usize;
-
-    ghost WIDTH: { ℕ };
+    ghost width: { Self → ℕ };
 
     ghost parse: { Self → List ℕ → Option R };
+
+    /// How many bytes a record has, at least one. A layout may know it only when the program runs.
+    fn width(&self) -> usize
+        ensures is { result ≡ width self.now }
+        ensures some { 0 < result };
 
     /// What the bytes of the record with this number stand for, or the fault that it is not as laid out.
     fn read(&self, number: usize, bytes: &[u8]) -> Result<R, TableFault>
         ensures { result ≡ ok_or (parse self.now bytes.now) (Record number) };
-
-    ghost some: { 0 < WIDTH };
 }
 
 /// The records of a table, which is read once: the first no among its questions decides.
@@ -67,14 +70,15 @@ pub fn load<R: Default + Drop, L: Layout<R, MOST>, const MOST: usize>(
     layout: &L,
     bytes: &[u8],
 ) -> Result<ArrayVec<R, MOST>, TableFault>
-    ensures answers { Answers result L.WIDTH MOST (L.parse layout.now) bytes.now }
-    ensures loads { IfOk result (λ v. v.items ≡ gathered (L.parse layout.now) (records L.WIDTH bytes.now)) }
+    ensures answers { Answers result (L.width layout.now) MOST (L.parse layout.now) bytes.now }
+    ensures loads { IfOk result (λ v. v.items ≡ gathered (L.parse layout.now) (records (L.width layout.now) bytes.now)) }
 {
-    if bytes.len() % L::WIDTH != 0 || bytes.len() / L::WIDTH > MOST {
+    let width = layout.width();
+    if bytes.len() % width != 0 || bytes.len() / width > MOST {
         return Err(TableFault::Count);
     }
     let mut table = ArrayVec::new();
-    for record in bytes.chunks_exact(L::WIDTH) {
+    for record in bytes.chunks_exact(width) {
         table.push(layout.read(table.len(), record)?);
     }
     Ok(table)

@@ -1,4 +1,4 @@
-use Rattle.std.proofs.Common.{◌≡◌, ◌/◌, ◌<◌, ◌≤◌, [], ◌∷◌, ◌++◌, length, Some, None, sym, ap, ◌∙◌, append_assoc, rules, arith}
+use Rattle.std.proofs.Common.{◌≡◌, ◌/◌, ◌<◌, ◌≤◌, [], ◌∷◌, ◌++◌, length, Some, sym, ap, ◌∙◌, append_assoc, rules, arith}
 use Rattle.std.proofs.lemmas.List.{append-nil}
 use Rattle.std.proofs.lemmas.Result.{err_from_is_err_and}
 use Rattle.std.specs.Slice.Iter.{chunks_exact_rest, chunks_exact_size}
@@ -11,7 +11,7 @@ use Rattle.tables.proofs.load.Goals as goal
 
 pub loop-record-init : goal.loop-record-init
 loop-record-init g c =
-    let w = g.L.Layout.WIDTH in
+    let w = g.L.Layout.width c.args.layout.now in
     let parse = g.L.Layout.parse c.args.layout.now in
     let bytes = c.args.bytes.now in
     let is = c.into_iter-record-iterator.ensures.into_iter_gives in
@@ -19,7 +19,7 @@ loop-record-init g c =
     let none : c.new-table.result.items ≡ [] = c.new-table.ensures in
     let few : length bytes / w ≤ g.row.MOST = search rules in
     record {
-      size = ap chunks_exact_size is ∙ c.chunks_exact-record-items.ensures.size ∙ c.WIDTH-2.ensures;
+      size = ap chunks_exact_size is ∙ c.chunks_exact-record-items.ensures.size ∙ c.width-width.ensures.is;
       asked = λ q. ap (λ xs. first_no (numbered (record_asked q parse) (length xs) (records w bytes))) (sym none) ∙ ap (λ b. first_no (numbered (record_asked q parse) (length c.new-table.result.items) (records w b))) (sym rest);
       got = ap (λ xs. xs ++ gathered parse (records w bytes)) (sym none) ∙ ap (λ b. c.new-table.result.items ++ gathered parse (records w b)) (sym rest);
       few = omega (arith, ap length none, ap (λ b. length (records w b)) rest, length_records w bytes, few);
@@ -27,8 +27,8 @@ loop-record-init g c =
 
 pub returns-in_err-read-clause-answers : goal.returns-in_err-read-clause-answers
 returns-in_err-read-clause-answers g c = λ p q.
-    let w = g.L.Layout.WIDTH in
-    let some = g.met.L.Layout.some in
+    let w = g.L.Layout.width c.args.layout.now in
+    let some : 0 < w = omega (arith, c.width-width.ensures.is, c.width-width.ensures.some) in
     let parse = g.L.Layout.parse c.args.layout.now in
     let y = err_from_is_err_and c.from_residual.result c.from_residual.ensures.1 in
     let no = read_none w some parse _ c.len.result _ c.in_err-read.ensures in
@@ -40,14 +40,16 @@ returns-in_err-read-clause-answers g c = λ p q.
 
 pub push-requires : goal.push-requires
 push-requires g c =
+    let w = g.L.Layout.width c.args.layout.now in
+    let some : 0 < w = omega (arith, c.width-width.ensures.is, c.width-width.ensures.some) in
     let h : length c.loop-record.table.items < g.row.MOST =
-    omega (arith, c.loop-record.invariant.few, count_more g.L.Layout.WIDTH g.met.L.Layout.some (g.L.Layout.parse c.args.layout.now) _ _ _ c.in-Some.ensures.steps.1.0 (c.in-Some.ensures.steps.1.1 ∙ c.loop-record.invariant.size)) in
+    omega (arith, c.loop-record.invariant.few, count_more w some (g.L.Layout.parse c.args.layout.now) _ _ _ c.in-Some.ensures.steps.1.0 (c.in-Some.ensures.steps.1.1 ∙ c.loop-record.invariant.size)) in
     (search rules, h)
 
 pub loop-record-preserved : goal.loop-record-preserved
 loop-record-preserved g c =
-    let w = g.L.Layout.WIDTH in
-    let some = g.met.L.Layout.some in
+    let w = g.L.Layout.width c.args.layout.now in
+    let some : 0 < w = omega (arith, c.width-width.ensures.is, c.width-width.ensures.some) in
     let parse = g.L.Layout.parse c.args.layout.now in
     let items = c.loop-record.table.items in
     let left = records w (chunks_exact_rest c.next.new.self) in
@@ -64,8 +66,8 @@ loop-record-preserved g c =
 
 pub returns-clause-answers : goal.returns-clause-answers
 returns-clause-answers g c = λ p q.
-    let w = g.L.Layout.WIDTH in
-    let some = g.met.L.Layout.some in
+    let w = g.L.Layout.width c.args.layout.now in
+    let some : 0 < w = omega (arith, c.width-width.ensures.is, c.width-width.ensures.some) in
     let parse = g.L.Layout.parse c.args.layout.now in
     let table = c.loop-record.table.items in
     sym (ap (λ rs. first_no (numbered (record_asked q parse) (length table) rs)) (none_left w some parse _ (omega (arith, c.in-None.ensures.steps.1.0, c.loop-record.invariant.size))))
@@ -73,7 +75,7 @@ returns-clause-answers g c = λ p q.
 
 pub returns-clause-loads : goal.returns-clause-loads
 returns-clause-loads g c =
-    let w = g.L.Layout.WIDTH in
-    let some = g.met.L.Layout.some in
+    let w = g.L.Layout.width c.args.layout.now in
+    let some : 0 < w = omega (arith, c.width-width.ensures.is, c.width-width.ensures.some) in
     let parse = g.L.Layout.parse c.args.layout.now in
     sym (c.loop-record.invariant.got ∙ ap (λ rs. c.loop-record.table.items ++ gathered parse rs) (none_left w some parse _ (omega (arith, c.in-None.ensures.steps.1.0, c.loop-record.invariant.size))) ∙ append-nil _)

@@ -8,7 +8,7 @@ use Rattle.tables.proofs.load.Given as goal
 -- what is left to be read is asked and gathered as the whole is, and there is room for it
 abbrev pub invariant-loop-record : goal.invariant-loop-record
 invariant-loop-record g l =
-    let w = g.L.Layout.WIDTH in
+    let w = g.L.Layout.width l.layout in
     let parse = g.L.Layout.parse l.layout in
     let left = records w (chunks_exact_rest l.record-iterator) in
     record {
