@@ -62,14 +62,15 @@ impl<R: Rule> Network<R> {
         self.table.add_acts(state, value, steps)
     }
 
-    /// Where a way lands at a value; none where there is no way, or the value is out of range.
-    fn landing_of(&self, state: &State, way: Option<Way>, value: Value) -> Option<State>
-        ensures { result ≡ cond (in_range self.now.table.program.range.lo self.now.table.program.range.hi value) (through (λ x. landing_of (net_of self.now.table) state.now x value) way) None }
+    /// Where the step with this number lands at a value; none where there is no such step, or the value is out of range.
+    fn landing_of(&self, state: &State, number: usize, value: Value) -> Option<State>
+        ensures { result ≡ cond (in_range self.now.table.program.range.lo self.now.table.program.range.hi value) (through (λ x. landing_of (net_of self.now.table) state.now x value) (slice_get (lawful_ways (net_of self.now.table) (R.Rule.allowed self.now.rule) state.now) number)) None }
     {
+        // before the way, which is looked for among all steps
         if !self.range().holds(value) {
             return None;
         }
-        let way = way?;
+        let way = self.way(state, number)?;
         Some(self.table.landing_of(state, &way, value))
     }
 }
@@ -120,7 +121,7 @@ impl<R: Rule> System for Network<R> {
     }
 
     fn landing(&self, state: &State, step: u64, value: Value) -> Option<State> {
-        self.landing_of(state, self.way(state, step as usize), value)
+        self.landing_of(state, step as usize, value)
     }
 
     // Whether the state is lawful is asked once for all steps.
