@@ -122,6 +122,9 @@ fn broadcast_is_lost_or_received(rt: HostRuntime) -> Result<(), Fail> {
     assert!(rt; is_step(&net, &state, 1, SENT, 0, &two(after, unit(3, -2, 1))));
     let receive = Label::Receive { groups: FREE };
     assert!(rt; is_step(&net, &state, 2, receive, 1, &two(sender, unit(3, 1, 1))));
+    let mut receives = Vec::new(rt.alloc());
+    net.receives(&state, &mut receives)?;
+    assert_eq!(rt; receives.len(), 1);
     Ok(())
 }
 

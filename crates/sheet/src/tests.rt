@@ -51,6 +51,9 @@ fn three_receives_land(rt: HostRuntime) -> Result<(), Fail> {
     let mut steps = Vec::new(rt.alloc());
     sheet.list(&state_at(0), 0, &mut steps)?;
     assert_eq!(rt; steps.len(), 3);
+    let mut receives = Vec::new(rt.alloc());
+    sheet.receives(&state_at(0), &mut receives)?;
+    assert_eq!(rt; receives.len(), 3);
     Ok(())
 }
 
